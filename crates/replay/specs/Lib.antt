@@ -1,0 +1,2 @@
+-- How far a replay program is with its list.
+pub mod State

@@ -1,0 +1,81 @@
+//! The `Debug` print of a plan, made from its words. 01 has the Rust's plans read from that print;
+//! the door reads the same ops, and each plan is held against its print.
+
+use given::door::curve;
+
+struct Words<'a>(std::slice::Iter<'a, u32>);
+
+impl Words<'_> {
+    fn word(&mut self) -> u32 {
+        *self.0.next().expect("a word of the op")
+    }
+
+    fn float(&mut self) -> f32 {
+        f32::from_bits(self.word())
+    }
+
+    fn floats<const N: usize>(&mut self) -> [f32; N] {
+        std::array::from_fn(|_| self.float())
+    }
+
+    fn flag(&mut self) -> bool {
+        self.word() == 1
+    }
+
+    fn params(&mut self) -> String {
+        let (luminances, intensity, min_nits) = (self.floats::<3>(), self.float(), self.float());
+        format!(
+            "HdrParams {{ luminances: {luminances:?}, intensity_target: {intensity:?}, \
+             min_nits: {min_nits:?} }}"
+        )
+    }
+
+    fn tone_map(&mut self, name: &str) -> String {
+        format!(
+            "{name} {{ hdr_params: {}, target_display_luminance: {:?}, detect_peak: {:?} }}",
+            self.params(),
+            self.float(),
+            self.flag()
+        )
+    }
+
+    fn op(&mut self) -> String {
+        match self.word() {
+            0 => format!(
+                "XybToMixedLms {{ opsin_bias: {:?}, intensity_target: {:?} }}",
+                self.floats::<3>(),
+                self.float()
+            ),
+            1 => format!("LumaToXyz {{ illuminant: {:?} }}", self.floats::<2>()),
+            2 => "XyzToLuma".to_string(),
+            3 => format!("Matrix({:?})", self.floats::<9>()),
+            4 => {
+                let tf = curve(self.word(), self.word());
+                let inverse = self.flag();
+                format!(
+                    "TransferFunction {{ tf: {tf:?}, hdr_params: {}, inverse: {inverse:?} }}",
+                    self.params()
+                )
+            }
+            5 => format!("HlgInverseOotf({})", self.params()),
+            6 => self.tone_map("ToneMapRec2408"),
+            7 => self.tone_map("ToneMapLumaRec2408"),
+            8 => format!(
+                "GamutMap {{ luminances: {:?}, saturation_factor: {:?} }}",
+                self.floats::<3>(),
+                self.float()
+            ),
+            9 => "Clip".to_string(),
+            kind => panic!("{kind} is no op's kind"),
+        }
+    }
+}
+
+/// The print of a plan with this start width, whose ops `words` has: their number, and each of them.
+pub fn print(start: usize, words: &[u32]) -> String {
+    let mut words = Words(words.iter());
+    let count = words.word();
+    let ops: Vec<String> = (0..count).map(|_| words.op()).collect();
+    assert!(words.0.next().is_none(), "words after the last op");
+    format!("ColorTransform {{ begin_channels: {start}, ops: [{}] }}", ops.join(", "))
+}

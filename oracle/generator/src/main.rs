@@ -1,0 +1,48 @@
+//! Writes lists of recorded answers to standard output: `oracle KIND SEED COUNT`. See README.md.
+
+mod cbrt;
+mod ciexyz;
+mod debug;
+mod encodings;
+mod floats;
+mod fused;
+mod libm;
+mod merge;
+mod ops;
+mod plan;
+mod points;
+mod record;
+mod rng;
+mod run;
+mod ycbcr;
+
+use std::io::{BufWriter, Write};
+
+const USAGE: &str = "usage: oracle fused|cbrt|ciexyz|plan|merge|run|ycbcr SEED COUNT, \
+                     or oracle cbrt-census";
+
+fn number<T: std::str::FromStr>(word: Option<String>) -> T {
+    word.and_then(|word| word.parse().ok()).expect(USAGE)
+}
+
+fn main() {
+    let mut words = std::env::args().skip(1);
+    let kind = words.next().expect(USAGE);
+    if kind == "cbrt-census" {
+        return cbrt::census();
+    }
+    let rng = &mut rng::Rng::new(number(words.next()));
+    let count: usize = number(words.next());
+    let out = &mut BufWriter::new(std::io::stdout().lock());
+    match kind.as_str() {
+        "fused" => fused::write(rng, count, out),
+        "cbrt" => cbrt::write(rng, count, out),
+        "ciexyz" => ciexyz::write(rng, count, out),
+        "plan" => plan::write(rng, count, out),
+        "merge" => merge::write(rng, count, out),
+        "run" => run::write(rng, count, out),
+        "ycbcr" => ycbcr::write(rng, count, out),
+        _ => panic!("{USAGE}"),
+    }
+    out.flush().expect("standard output");
+}

@@ -1,0 +1,57 @@
+//! A record: one line of words, each of eight hexadecimal digits.
+
+use given::door::word;
+use std::io::Write;
+
+/// The kinds of records, as README.md lists them.
+#[derive(Clone, Copy)]
+pub enum Kind {
+    Fused = 1,
+    Cbrt = 2,
+    Matmul3 = 3,
+    Matmul3vec = 4,
+    Matinv = 5,
+    IlluminantToXyz = 6,
+    AdaptMatXy = 7,
+    AdaptMat = 8,
+    PrimariesToXyzMatXy = 9,
+    PrimariesToXyzMat = 10,
+    XyzToPrimariesMatXy = 11,
+    XyzToPrimariesMat = 12,
+    Plan = 13,
+    Merge = 14,
+    Run = 15,
+    Ycbcr = 16,
+}
+
+/// The longest line, with its newline.
+pub const LONGEST: usize = 4000;
+
+pub struct Record(Vec<u32>);
+
+impl Record {
+    pub fn new(kind: Kind) -> Self {
+        Self(vec![kind as u32])
+    }
+
+    pub fn words(mut self, words: &[u32]) -> Self {
+        self.0.extend(words);
+        self
+    }
+
+    pub fn floats(mut self, floats: &[f32]) -> Self {
+        self.0.extend(floats.iter().map(|&x| word(x)));
+        self
+    }
+
+    /// The bytes that its line takes.
+    pub fn bytes(&self) -> usize {
+        9 * self.0.len()
+    }
+
+    pub fn write(&self, out: &mut impl Write) {
+        assert!(self.bytes() <= LONGEST, "a line of {} bytes", self.bytes());
+        let words: Vec<String> = self.0.iter().map(|w| format!("{w:08x}")).collect();
+        writeln!(out, "{}", words.join(" ")).expect("standard output");
+    }
+}
