@@ -23,6 +23,7 @@ fn main() {
     println!("cargo::rerun-if-env-changed=JXL_COLOR_SRC");
 
     let shims = package.join("shims");
+    let _ = fs::remove_dir_all(&root);
     copy_all(&shims.join("jxl-color"), &root);
     copy_given(&package, &root);
 
@@ -59,11 +60,20 @@ fn copy_given(package: &Path, root: &Path) {
         println!("cargo::rerun-if-changed={}", source.display());
         let given = read(&source, "a given file (set JXL_COLOR_SRC)");
         let found = sha256::hex(&given);
-        assert_eq!(found, sum, "{} is not the file that we recorded", source.display());
+        assert_eq!(
+            found,
+            sum,
+            "{} is not the file that we recorded",
+            source.display()
+        );
 
         let copy = root.join(Path::new(name).file_name().unwrap());
         fs::write(&copy, &given).unwrap();
-        assert!(read(&copy, "a copy") == given, "{} is no true copy", copy.display());
+        assert!(
+            read(&copy, "a copy") == given,
+            "{} is no true copy",
+            copy.display()
+        );
     }
 }
 
@@ -90,7 +100,14 @@ fn copy_all(from: &Path, to: &Path) {
 fn compile(name: &str, source: &Path, out: &Path, leans_on: &[&str]) {
     let mut rustc = Command::new(env::var_os("RUSTC").unwrap());
     rustc
-        .args(["--edition", "2024", "--crate-type", "rlib", "--crate-name", name])
+        .args([
+            "--edition",
+            "2024",
+            "--crate-type",
+            "rlib",
+            "--crate-name",
+            name,
+        ])
         .arg("--target")
         .arg(env::var_os("TARGET").unwrap())
         .arg("-C")

@@ -4,7 +4,7 @@ ghost use mathlib.Core.Bool.{true, false};
 ghost use Prim.Native.Nat.{_+_, _-_, _≤_, _<_};
 ghost use lib.Dec.{eqb};
 ghost use lib.ListN.{length, take};
-ghost use Rattle.replay.specs.State.{begun, moved, ended, lineOf, counted, fronted, endsAt, Handed};
+ghost use Rattle.replay.specs.State.{begun, moved, lineOf, counted, countOf, fronted, endsAt, Handed};
 use libc::STDIN_FILENO;
 use libc::STDOUT_FILENO;
 
@@ -53,31 +53,32 @@ fn next_in(buf: &mut [u8], p: Progress) -> Progress
     let from = p.next;
     let filled = p.filled;
     if p.turns == 0 {
-        return stop(p);
+        return at(p, false, from, from, from, filled, 0);
     }
     if buf.len() < filled {
-        return stop(p);
+        return at(p, false, from, from, from, filled, 0);
     }
     if filled < from {
-        return stop(p);
+        return at(p, false, from, from, from, filled, 0);
     }
     let end = record::line_end(&buf[..filled], from);
     if end < filled {
-        return step(p, true, from, end, end + 1, filled);
+        return at(p, true, from, end, end + 1, filled, p.turns - 1);
     }
     read_on(buf, p)
 }
 
-fn step(
+// The same counts at another place.
+fn at(
     p: Progress,
     has_line: bool,
     start: usize,
     end: usize,
     next: usize,
     filled: usize,
+    turns: u64,
 ) -> Progress
-    requires { ⌜ 0 < p .turns ⌝ }
-    ensures { λ r. ⌜ r ≡ moved p «has_line» start end next filled ⌝ }
+    ensures { λ r. ⌜ r ≡ moved p «has_line» start end next filled turns ⌝ }
 {
     Progress {
         has_line,
@@ -85,25 +86,17 @@ fn step(
         end,
         next,
         filled,
-        turns: p.turns - 1,
+        turns,
         ran: p.ran,
         differ: p.differ,
     }
 }
 
-fn stop(p: Progress) -> Progress
-    ensures { λ r. ⌜ r ≡ ended p ⌝ }
-{
-    Progress {
-        has_line: false,
-        start: p.next,
-        end: p.next,
-        next: p.next,
-        filled: p.filled,
-        turns: 0,
-        ran: p.ran,
-        differ: p.differ,
-    }
+// What a read brings.
+enum Input {
+    Bytes(usize),
+    End,
+    Failed,
 }
 
 // Moves what is left to the front and reads behind it.
@@ -115,24 +108,34 @@ fn read_on(buf: &mut [u8], p: Progress) -> Progress
     let filled = p.filled;
     to_front(buf, from, filled);
     let left = filled - from;
-    let got = read_behind(buf, left);
-    if 0 < got {
-        return step(p, false, 0, 0, 0, left + got);
+    match read_behind(buf, left) {
+        Input::Bytes(got) => at(p, false, 0, 0, 0, left + got, p.turns - 1),
+        Input::End => {
+            if left == 0 {
+                return at(p, false, 0, 0, 0, 0, 0);
+            }
+            at(p, true, 0, left, left, left, p.turns - 1)
+        }
+        // A read that fails counts as a line that is no record, and is the last.
+        Input::Failed => at(p, true, 0, 0, 0, left, 0),
     }
-    if 0 < left {
-        return step(p, true, 0, left, left, left);
-    }
-    stop(p)
 }
 
-// Reads behind the first `left` bytes, and answers how many came: none at the end of the input, or where the buffer is full.
-fn read_behind(buf: &mut [u8], left: usize) -> usize
+// Reads behind the first `left` bytes. Where the buffer is full, the input ends here too: the line is too long for a record.
+fn read_behind(buf: &mut [u8], left: usize) -> Input
     requires { ⌜ left ≤ length (now buf) ⌝ }
-    ensures { λ r. ⌜ (left + r ≤ length (now (buf .entry))) × (take left (now (buf .exit)) ≡ take left (now (buf .entry))) ⌝ }
+    ensures { λ r. ⌜ (left + countOf r ≤ length (now (buf .entry))) × (take left (now (buf .exit)) ≡ take left (now (buf .entry))) ⌝ }
 {
     let rest = &mut buf[left..];
     let got = libc::read(STDIN_FILENO, rest);
-    io::count(got, rest)
+    if got < 0 {
+        return Input::Failed;
+    }
+    let n = io::count(got, rest);
+    if n == 0 {
+        return Input::End;
+    }
+    Input::Bytes(n)
 }
 
 fn to_front(buf: &mut [u8], from: usize, to: usize)

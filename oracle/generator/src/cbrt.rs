@@ -90,11 +90,15 @@ pub fn write(rng: &mut Rng, count: usize, out: &mut impl Write) {
 fn fixed() -> Vec<f32> {
     let mut cases = vec![0.0, f32::INFINITY, f32::NAN, TINY, 2.0 * TINY, 3.0 * TINY];
     cases.extend([LARGEST_SUBNORMAL, f32::MIN_POSITIVE, MAX]);
-    // 3f800004, where the C library says 3f800005 and so did others; and 3fa14519
+    // the nearest are 3f800004, where glibc 2.36 says 3f800005, and 3fa14519
     cases.extend([f32::from_bits(0x3f80000d), f32::from_bits(0x40000002)]);
     for a in -49..=42 {
         let x = power(3 * a);
-        cases.extend([x, f32::from_bits(x.to_bits() - 1), f32::from_bits(x.to_bits() + 1)]);
+        cases.extend([
+            x,
+            f32::from_bits(x.to_bits() - 1),
+            f32::from_bits(x.to_bits() + 1),
+        ]);
     }
     cases.iter().flat_map(|&x| [x, -x]).collect()
 }
@@ -113,7 +117,9 @@ fn in_range(rng: &mut Rng) -> f32 {
 
 /// Of 4,096 floats from 1 to 8 the one whose root lies closest to the middle of two floats.
 fn near_middle(rng: &mut Rng) -> f32 {
-    let closest = (0..4096).map(|_| in_range(rng)).min_by_key(|&x| scaled(x).past_middle().abs());
+    let closest = (0..4096)
+        .map(|_| in_range(rng))
+        .min_by_key(|&x| scaled(x).past_middle().abs());
     moved(rng, closest.unwrap())
 }
 
@@ -128,7 +134,11 @@ fn at_middle(rng: &mut Rng) -> f32 {
 /// A float next to the cube of a float of few digits.
 fn near_cube(rng: &mut Rng) -> f32 {
     let root = rng.between(1, 1 << 9) as f32;
-    let x = f32::from_bits((root * root * root).to_bits().wrapping_add_signed(rng.between(-2, 2)));
+    let x = f32::from_bits(
+        (root * root * root)
+            .to_bits()
+            .wrapping_add_signed(rng.between(-2, 2)),
+    );
     moved(rng, x)
 }
 
@@ -143,7 +153,13 @@ struct Census {
 
 impl Census {
     fn new(name: &'static str, f: impl Fn(f32) -> f32 + 'static) -> Self {
-        Self { name, f: Box::new(f), differ: 0, furthest: 0, examples: Vec::new() }
+        Self {
+            name,
+            f: Box::new(f),
+            differ: 0,
+            furthest: 0,
+            examples: Vec::new(),
+        }
     }
 
     fn look(&mut self, x: f32, nearest: f32) {
@@ -159,7 +175,10 @@ impl Census {
 
     fn print(&self, all: u64) {
         let percent = 100.0 * self.differ as f64 / all as f64;
-        print!("  {}: {} of {all} differ ({percent:.2} %)", self.name, self.differ);
+        print!(
+            "  {}: {} of {all} differ ({percent:.2} %)",
+            self.name, self.differ
+        );
         if self.differ > 0 {
             print!(", by at most {} unit(s) in the last place", self.furthest);
         }
@@ -179,8 +198,10 @@ impl Census {
 fn count_over(what: &str, patterns: impl Iterator<Item = u32>) {
     let cbrtf = libm::cbrtf();
     let mut all = 0;
-    let mut counts =
-        [Census::new("f32::cbrt", f32::cbrt), Census::new("cbrtf of libm.so.6", move |x| cbrtf(x))];
+    let mut counts = [
+        Census::new("f32::cbrt", f32::cbrt),
+        Census::new("cbrtf of libm.so.6", move |x| cbrtf(x)),
+    ];
     for pattern in patterns {
         let x = f32::from_bits(pattern);
         let nearest = exact(x);
@@ -194,5 +215,28 @@ fn count_over(what: &str, patterns: impl Iterator<Item = u32>) {
 /// Counts the answers that are not the nearest float.
 pub fn census() {
     count_over("all f32 from 1 to below 8", 0x3f800000..0x41000000);
-    count_over("every 97th positive finite f32", (1..0x7f800000).step_by(97));
+    count_over(
+        "every 97th positive finite f32",
+        (1..0x7f800000).step_by(97),
+    );
+}
+
+#[cfg(test)]
+mod tests {
+    use super::exact;
+
+    #[test]
+    fn nearest_roots() {
+        let root = |pattern| exact(f32::from_bits(pattern)).to_bits();
+        assert_eq!(root(0x3f80000d), 0x3f800004);
+        assert_eq!(root(0x40000002), 0x3fa14519);
+        assert_eq!(exact(27.0), 3.0);
+        assert_eq!(exact(-8.0), -2.0);
+        assert_eq!(exact(-0.0).to_bits(), 0x80000000);
+        assert_eq!(exact(f32::INFINITY), f32::INFINITY);
+        assert!(exact(f32::NAN).is_nan());
+        // 2 ^ -149 is 2 * 8 ^ -50, and the largest float just below 2 * 8 ^ 42
+        assert_eq!(root(0x00000001), 0x26a14518);
+        assert_eq!(root(0x7f7fffff), 0x54cb2ff5);
+    }
 }

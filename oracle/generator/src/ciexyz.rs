@@ -29,7 +29,9 @@ const CALLS: [fn(&mut Rng) -> Record; 10] = [
 pub fn write(rng: &mut Rng, count: usize, out: &mut impl Write) {
     let mut fixed = fixed().into_iter();
     for turn in 0..count {
-        let record = fixed.next().unwrap_or_else(|| CALLS[turn % CALLS.len()](rng));
+        let record = fixed
+            .next()
+            .unwrap_or_else(|| CALLS[turn % CALLS.len()](rng));
         record.write(out);
     }
     eprintln!("ciexyz: {count} calls");
@@ -52,7 +54,11 @@ fn fixed() -> Vec<Record> {
         }
     }
     // the identity, a matrix of rank two, zero
-    for m in [[1., 0., 0., 0., 1., 0., 0., 0., 1.], [1., 2., 3., 4., 5., 6., 7., 8., 9.], [0.; 9]] {
+    for m in [
+        [1., 0., 0., 0., 1., 0., 0., 0., 1.],
+        [1., 2., 3., 4., 5., 6., 7., 8., 9.],
+        [0.; 9],
+    ] {
         records.push(inverse(m));
     }
     // 01: the exchange of two channels, and then the first one doubled
@@ -72,7 +78,11 @@ fn matrix(rng: &mut Rng) -> [f32; 9] {
 }
 
 fn xy(rng: &mut Rng) -> [f32; 2] {
-    if rng.one_in(2) { [rng.decimal(), rng.decimal()] } else { [rng.colour(), rng.colour()] }
+    if rng.one_in(2) {
+        [rng.decimal(), rng.decimal()]
+    } else {
+        [rng.colour(), rng.colour()]
+    }
 }
 
 fn triangle(rng: &mut Rng) -> [[f32; 2]; 3] {
@@ -86,18 +96,38 @@ fn triangle(rng: &mut Rng) -> [[f32; 2]; 3] {
 /// A white point; a coordinate may be any `i32` here, where nothing is refused.
 fn white(rng: &mut Rng) -> WhitePoint {
     if rng.one_in(8) {
-        let ends = [i32::MIN, i32::MIN + 1, -16_777_217, 16_777_217, i32::MAX - 1, i32::MAX];
-        return WhitePoint::Custom(Customxy { x: rng.pick(&ends), y: rng.next() as i32 });
+        let ends = [
+            i32::MIN,
+            i32::MIN + 1,
+            -16_777_217,
+            16_777_217,
+            i32::MAX - 1,
+            i32::MAX,
+        ];
+        return WhitePoint::Custom(Customxy {
+            x: rng.pick(&ends),
+            y: rng.next() as i32,
+        });
     }
-    if rng.one_in(8) { WhitePoint::Custom(D65_BY_NUMBER) } else { rng.white() }
+    if rng.one_in(8) {
+        WhitePoint::Custom(D65_BY_NUMBER)
+    } else {
+        rng.white()
+    }
 }
 
 fn product(a: [f32; 9], b: [f32; 9]) -> Record {
-    Record::new(Kind::Matmul3).floats(&a).floats(&b).floats(&matmul3(&a, &b))
+    Record::new(Kind::Matmul3)
+        .floats(&a)
+        .floats(&b)
+        .floats(&matmul3(&a, &b))
 }
 
 fn applied(a: [f32; 9], b: [f32; 3]) -> Record {
-    Record::new(Kind::Matmul3vec).floats(&a).floats(&b).floats(&matmul3vec(&a, &b))
+    Record::new(Kind::Matmul3vec)
+        .floats(&a)
+        .floats(&b)
+        .floats(&matmul3vec(&a, &b))
 }
 
 fn inverse(m: [f32; 9]) -> Record {
@@ -105,11 +135,16 @@ fn inverse(m: [f32; 9]) -> Record {
 }
 
 fn xyz(w: [f32; 2]) -> Record {
-    Record::new(Kind::IlluminantToXyz).floats(&w).floats(&illuminant_to_xyz(w))
+    Record::new(Kind::IlluminantToXyz)
+        .floats(&w)
+        .floats(&illuminant_to_xyz(w))
 }
 
 fn adapt_xy(from: [f32; 2], to: [f32; 2]) -> Record {
-    Record::new(Kind::AdaptMatXy).floats(&from).floats(&to).floats(&adapt_mat(from, to))
+    Record::new(Kind::AdaptMatXy)
+        .floats(&from)
+        .floats(&to)
+        .floats(&adapt_mat(from, to))
 }
 
 fn adapt(from: WhitePoint, to: WhitePoint) -> Record {
@@ -120,29 +155,51 @@ fn adapt(from: WhitePoint, to: WhitePoint) -> Record {
 }
 
 fn to_xyz_xy(corners: [[f32; 2]; 3], w: [f32; 2]) -> Record {
-    Record::new(Kind::PrimariesToXyzMatXy)
-        .floats(corners.as_flattened())
-        .floats(&w)
-        .floats(&primaries_to_xyz_mat(corners, w))
+    by_floats(
+        Kind::PrimariesToXyzMatXy,
+        corners,
+        w,
+        primaries_to_xyz_mat(corners, w),
+    )
 }
 
 fn from_xyz_xy(corners: [[f32; 2]; 3], w: [f32; 2]) -> Record {
-    Record::new(Kind::XyzToPrimariesMatXy)
+    by_floats(
+        Kind::XyzToPrimariesMatXy,
+        corners,
+        w,
+        xyz_to_primaries_mat(corners, w),
+    )
+}
+
+fn by_floats(kind: Kind, corners: [[f32; 2]; 3], w: [f32; 2], answer: [f32; 9]) -> Record {
+    Record::new(kind)
         .floats(corners.as_flattened())
         .floats(&w)
-        .floats(&xyz_to_primaries_mat(corners, w))
+        .floats(&answer)
 }
 
 fn to_xyz(primaries: Primaries, white: WhitePoint) -> Record {
-    Record::new(Kind::PrimariesToXyzMat)
-        .words(&primaries_words(primaries))
-        .words(&white_words(white))
-        .floats(&primaries_to_xyz_mat(primaries, white))
+    by_name(
+        Kind::PrimariesToXyzMat,
+        primaries,
+        white,
+        primaries_to_xyz_mat(primaries, white),
+    )
 }
 
 fn from_xyz(primaries: Primaries, white: WhitePoint) -> Record {
-    Record::new(Kind::XyzToPrimariesMat)
+    by_name(
+        Kind::XyzToPrimariesMat,
+        primaries,
+        white,
+        xyz_to_primaries_mat(primaries, white),
+    )
+}
+
+fn by_name(kind: Kind, primaries: Primaries, white: WhitePoint, answer: [f32; 9]) -> Record {
+    Record::new(kind)
         .words(&primaries_words(primaries))
         .words(&white_words(white))
-        .floats(&xyz_to_primaries_mat(primaries, white))
+        .floats(&answer)
 }

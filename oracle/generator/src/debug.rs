@@ -1,6 +1,7 @@
-//! The `Debug` print of a plan, made from its words. 01 has the Rust's plans read from that print;
-//! the door reads the same ops, and each plan is held against its print.
+//! A plan as words. 01 has the Rust's plans read from their `Debug` print; the door reads the bits,
+//! and here the print is made again from them and compared.
 
+use given::ColorTransform;
 use given::door::curve;
 
 struct Words<'a>(std::slice::Iter<'a, u32>);
@@ -71,11 +72,17 @@ impl Words<'_> {
     }
 }
 
-/// The print of a plan with this start width, whose ops `words` has: their number, and each of them.
-pub fn print(start: usize, words: &[u32]) -> String {
-    let mut words = Words(words.iter());
-    let count = words.word();
-    let ops: Vec<String> = (0..count).map(|_| words.op()).collect();
-    assert!(words.0.next().is_none(), "words after the last op");
-    format!("ColorTransform {{ begin_channels: {start}, ops: [{}] }}", ops.join(", "))
+/// The number of ops of a plan, and then each op, as the door reads them and its print says.
+pub fn words(plan: &ColorTransform) -> Vec<u32> {
+    let words = plan.words();
+    let mut rest = Words(words.iter());
+    let ops: Vec<String> = (0..rest.word()).map(|_| rest.op()).collect();
+    assert!(rest.0.next().is_none(), "words after the last op");
+    let start = plan.input_channels();
+    let print = format!(
+        "ColorTransform {{ begin_channels: {start}, ops: [{}] }}",
+        ops.join(", ")
+    );
+    assert_eq!(print, format!("{plan:?}"));
+    words
 }

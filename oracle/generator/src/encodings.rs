@@ -8,8 +8,12 @@ use given::{
     TransferFunction,
 };
 
-pub const SPACES: [ColourSpace; 4] =
-    [ColourSpace::Rgb, ColourSpace::Grey, ColourSpace::Xyb, ColourSpace::Unknown];
+pub const SPACES: [ColourSpace; 4] = [
+    ColourSpace::Rgb,
+    ColourSpace::Grey,
+    ColourSpace::Xyb,
+    ColourSpace::Unknown,
+];
 
 pub const INTENTS: [RenderingIntent; 4] = [
     RenderingIntent::Perceptual,
@@ -50,8 +54,10 @@ pub struct Settings {
     pub from_pq: bool,
 }
 
-pub const NO_OPSIN: OpsinInverseMatrix =
-    OpsinInverseMatrix { inv_mat: [[0.0; 3]; 3], opsin_bias: [0.0; 3] };
+pub const NO_OPSIN: OpsinInverseMatrix = OpsinInverseMatrix {
+    inv_mat: [[0.0; 3]; 3],
+    opsin_bias: [0.0; 3],
+};
 
 /// JPEG XL's default inverse opsin matrix and biases.
 pub const DEFAULT_OPSIN: OpsinInverseMatrix = OpsinInverseMatrix {
@@ -69,7 +75,12 @@ pub fn encoding_words(e: &EnumColourEncoding) -> Vec<u32> {
     words.extend(white_words(e.white_point));
     words.extend(primaries_words(e.primaries));
     words.extend(curve_words(e.tf));
-    words.push(INTENTS.iter().position(|&i| i == e.rendering_intent).unwrap() as u32);
+    words.push(
+        INTENTS
+            .iter()
+            .position(|&i| i == e.rendering_intent)
+            .unwrap() as u32,
+    );
     words
 }
 
@@ -121,7 +132,11 @@ impl Rng {
         Settings {
             opsin: if wanted { self.opsin() } else { NO_OPSIN },
             tone: ToneMapping {
-                intensity_target: if self.one_in(6) { random } else { self.pick(&INTENSITIES) },
+                intensity_target: if self.one_in(6) {
+                    random
+                } else {
+                    self.pick(&INTENSITIES)
+                },
                 min_nits: self.pick(&[0.0, 0.0001, 1.0, f32::NAN]),
             },
             detect_peak: self.one_in(2),

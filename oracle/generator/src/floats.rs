@@ -71,6 +71,12 @@ impl Rng {
     /// The same for a row of floats: all tame, or each anything.
     pub fn colours<const N: usize>(&mut self) -> [f32; N] {
         let tame = !self.one_in(3);
-        std::array::from_fn(|_| if tame { self.scaled(-6, 1) } else { self.colour() })
+        std::array::from_fn(|_| {
+            if tame {
+                self.scaled(-6, 1)
+            } else {
+                self.colour()
+            }
+        })
     }
 }

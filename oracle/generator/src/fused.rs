@@ -80,7 +80,11 @@ fn tail_breaks_tie(rng: &mut Rng) -> Case {
         (d, 1.0 - d + d * d)
     };
     let place = rng.between(-60, 60);
-    [(1.0 + d) * power(place), signed(rng, b), rng.scaled(place + 24, place + 24)]
+    [
+        (1.0 + d) * power(place),
+        signed(rng, b),
+        rng.scaled(place + 24, place + 24),
+    ]
 }
 
 /// The product is the middle of two floats, 25 digits exactly, and the addend, up to 250 places
@@ -121,7 +125,11 @@ fn subnormal(rng: &mut Rng) -> Case {
     let place = rng.between(-60, 2);
     let a = rng.scaled(place, place);
     let b = rng.scaled((-160 - place).max(-127), -124 - place);
-    let c = if rng.one_in(3) { one_digit(rng, -149, -120) } else { rng.scaled(-127, -124) };
+    let c = if rng.one_in(3) {
+        one_digit(rng, -149, -120)
+    } else {
+        rng.scaled(-127, -124)
+    };
     [a, b, c]
 }
 
@@ -138,12 +146,24 @@ fn subnormal_tie(rng: &mut Rng) -> Case {
 fn overflows(rng: &mut Rng) -> Case {
     let place = rng.between(20, 100);
     match rng.below(4) {
-        0 => [rng.scaled(place, place), rng.scaled(126 - place, 128 - place), rng.scaled(100, 127)],
-        1 => [power(place), power(128 - place), -one_digit(rng, 100, 108).abs()],
+        0 => [
+            rng.scaled(place, place),
+            rng.scaled(126 - place, 128 - place),
+            rng.scaled(100, 127),
+        ],
+        1 => [
+            power(place),
+            power(128 - place),
+            -one_digit(rng, 100, 108).abs(),
+        ],
         2 => [power(place), power(103 - place), MAX],
         _ => {
             let d = power(rng.between(-23, -13));
-            [(1.0 + d) * power(place), (1.0 - d) * power(103 - place), MAX]
+            [
+                (1.0 + d) * power(place),
+                (1.0 - d) * power(103 - place),
+                MAX,
+            ]
         }
     }
 }
@@ -155,7 +175,11 @@ fn short(rng: &mut Rng) -> Case {
 /// The product and the addend have about the same size.
 fn of_one_size(rng: &mut Rng) -> Case {
     let (p, q) = (rng.between(-50, 50), rng.between(-50, 50));
-    [rng.scaled(p, p), rng.scaled(q, q), rng.scaled(p + q - 26, p + q + 26)]
+    [
+        rng.scaled(p, p),
+        rng.scaled(q, q),
+        rng.scaled(p + q - 26, p + q + 26),
+    ]
 }
 
 fn special(rng: &mut Rng) -> Case {

@@ -1,9 +1,9 @@
 //! Lists of ops, merged by the given `optimize`.
 
-use crate::ops::Op;
+use crate::debug;
+use crate::ops::{Op, list};
 use crate::record::{Kind, LONGEST, Record};
 use crate::rng::Rng;
-use given::ColorTransform;
 use std::io::Write;
 
 pub fn write(rng: &mut Rng, count: usize, out: &mut impl Write) {
@@ -22,12 +22,10 @@ pub fn write(rng: &mut Rng, count: usize, out: &mut impl Write) {
 }
 
 fn record(start: usize, ops: &[Op]) -> Record {
-    let words = ops.concat();
-    let merged = ColorTransform::from_words(start, ops.len(), &words).merged();
     Record::new(Kind::Merge)
         .words(&[start as u32, ops.len() as u32])
-        .words(&words)
-        .words(&merged.words())
+        .words(&ops.concat())
+        .words(&debug::words(&list(start, ops).merged()))
 }
 
 /// No op, one of each kind, runs of each length up to 32, and matrices alone between others.
@@ -36,12 +34,25 @@ fn fixed(rng: &mut Rng) -> Vec<(usize, Vec<Op>)> {
     lists.extend((0..10).map(|kind| (1, vec![rng.op(kind)])));
     lists.extend((1..=32).map(|n| (3, (0..n).map(|_| rng.op(3)).collect())));
     lists.push((3, (0..32).map(|_| rng.op(9)).collect()));
-    lists.push((3, (0..32).map(|i| rng.op(if i % 2 == 0 { 3 } else { 9 })).collect()));
-    lists.push((3, (0..32).map(|i| rng.op(if i % 2 == 0 { 2 } else { 3 })).collect()));
+    lists.push((
+        3,
+        (0..32)
+            .map(|i| rng.op(if i % 2 == 0 { 3 } else { 9 }))
+            .collect(),
+    ));
+    lists.push((
+        3,
+        (0..32)
+            .map(|i| rng.op(if i % 2 == 0 { 2 } else { 3 }))
+            .collect(),
+    ));
     // 01: the exchange of two channels, and then the first one doubled
     let matrix = |m: [f32; 9]| std::iter::once(3).chain(m.map(f32::to_bits)).collect();
     let exchange = matrix([0., 1., 0., 1., 0., 0., 0., 0., 1.]);
-    lists.push((3, vec![exchange, matrix([2., 0., 0., 0., 1., 0., 0., 0., 1.])]));
+    lists.push((
+        3,
+        vec![exchange, matrix([2., 0., 0., 0., 1., 0., 0., 0., 1.])],
+    ));
     lists
 }
 
@@ -51,7 +62,11 @@ fn random(rng: &mut Rng) -> (usize, Vec<Op>) {
     let one_in = rng.pick(&[2, 3, 5]);
     let ops = (0..length)
         .map(|_| {
-            let kind = if rng.one_in(one_in) { rng.below(10) as u32 } else { 3 };
+            let kind = if rng.one_in(one_in) {
+                rng.below(10) as u32
+            } else {
+                3
+            };
             rng.op(kind)
         })
         .collect();

@@ -1,10 +1,20 @@
 //! Ops by chance, as words.
 
+use crate::debug;
 use crate::rng::Rng;
+use given::ColorTransform;
 use given::door::word;
 
 /// An op as 01's plan block has it: a kind and its fields.
 pub type Op = Vec<u32>;
+
+/// The Rust's list of these ops.
+pub fn list(start: usize, ops: &[Op]) -> ColorTransform {
+    let words = ops.concat();
+    let list = ColorTransform::from_words(start, ops.len(), &words);
+    assert_eq!(debug::words(&list)[1..], words);
+    list
+}
 
 impl Rng {
     /// An op of this kind with any fields.
@@ -20,11 +30,24 @@ impl Rng {
         let mut op = vec![kind];
         if kind == 4 {
             let curve = self.below(9) as u32;
-            op.extend([curve, if curve < 2 { self.below(1 << 24) as u32 } else { 0 }]);
+            op.extend([
+                curve,
+                if curve < 2 {
+                    self.below(1 << 24) as u32
+                } else {
+                    0
+                },
+            ]);
             op.push(self.below(2) as u32);
         }
         let tame = !self.one_in(4);
-        op.extend((0..floats).map(|_| word(if tame { self.scaled(-6, 1) } else { self.colour() })));
+        op.extend((0..floats).map(|_| {
+            word(if tame {
+                self.scaled(-6, 1)
+            } else {
+                self.colour()
+            })
+        }));
         if kind == 6 || kind == 7 {
             op.push(self.below(2) as u32);
         }
@@ -33,7 +56,11 @@ impl Rng {
 
     /// A carried op that a list of this width takes next, and the width after it.
     pub fn carried(&mut self, width: usize) -> (Op, usize) {
-        let kinds: &[u32] = if width == 1 { &[1, 1, 4, 9] } else { &[0, 2, 3, 3, 3, 4, 9] };
+        let kinds: &[u32] = if width == 1 {
+            &[1, 1, 4, 9]
+        } else {
+            &[0, 2, 3, 3, 3, 4, 9]
+        };
         let kind = self.pick(kinds);
         let mut op = self.op(kind);
         if kind == 4 {

@@ -39,16 +39,19 @@ pub fn write(rng: &mut Rng, count: usize, out: &mut impl Write) {
 /// The number, the start width, the number of ops and the ops.
 fn answer(case: &Case) -> Vec<u32> {
     let side = |e: &EnumColourEncoding| ColorEncodingWithProfile::new(e.clone());
-    let Settings { opsin, tone, detect_peak, from_pq } = &case.settings;
+    let s = &case.settings;
     let mut builder = ColorTransform::builder();
-    builder.set_detect_peak(*detect_peak).from_pq(*from_pq);
-    match builder.build(&side(&case.from), &side(&case.to), opsin, tone, &NullCms) {
+    builder.set_detect_peak(s.detect_peak).from_pq(s.from_pq);
+    match builder.build(
+        &side(&case.from),
+        &side(&case.to),
+        &s.opsin,
+        &s.tone,
+        &NullCms,
+    ) {
         Ok(plan) => {
-            let start = plan.input_channels();
-            let words = plan.words();
-            assert_eq!(debug::print(start, &words), format!("{plan:?}"));
-            let mut answer = vec![0, start as u32];
-            answer.extend(words);
+            let mut answer = vec![0, plan.input_channels() as u32];
+            answer.extend(debug::words(&plan));
             answer
         }
         Err(Error::UnsupportedColorEncoding) => vec![3, 0, 0],
@@ -57,15 +60,19 @@ fn answer(case: &Case) -> Vec<u32> {
 }
 
 fn record(case: &Case) -> Record {
-    let Settings { opsin, tone, detect_peak, from_pq } = &case.settings;
-    let matrix = opsin.inv_mat.as_flattened();
-    let has_opsin = matrix.iter().chain(&opsin.opsin_bias).any(|&x| x.to_bits() != 0);
+    let s = &case.settings;
+    let (matrix, biases) = (s.opsin.inv_mat.as_flattened(), &s.opsin.opsin_bias);
+    let has_opsin = matrix.iter().chain(biases).any(|&x| x.to_bits() != 0);
     let record = Record::new(Kind::Plan)
         .words(&encoding_words(&case.from))
         .words(&encoding_words(&case.to))
-        .floats(&[tone.intensity_target, tone.min_nits])
-        .words(&[*detect_peak as u32, *from_pq as u32, has_opsin as u32]);
-    if has_opsin { record.floats(matrix).floats(&opsin.opsin_bias) } else { record }
+        .floats(&[s.tone.intensity_target, s.tone.min_nits])
+        .words(&[s.detect_peak as u32, s.from_pq as u32, has_opsin as u32]);
+    if has_opsin {
+        record.floats(matrix).floats(biases)
+    } else {
+        record
+    }
 }
 
 fn random(rng: &mut Rng) -> Case {
@@ -102,8 +109,15 @@ fn plain(space: ColourSpace, tf: TransferFunction, intent: RenderingIntent) -> E
 
 fn settings(from: ColourSpace, intensity_target: f32, from_pq: bool) -> Settings {
     Settings {
-        opsin: if from == ColourSpace::Xyb { DEFAULT_OPSIN } else { NO_OPSIN },
-        tone: ToneMapping { intensity_target, min_nits: 0.0 },
+        opsin: if from == ColourSpace::Xyb {
+            DEFAULT_OPSIN
+        } else {
+            NO_OPSIN
+        },
+        tone: ToneMapping {
+            intensity_target,
+            min_nits: 0.0,
+        },
         detect_peak: true,
         from_pq,
     }
@@ -120,9 +134,24 @@ fn fixed() -> Vec<Case> {
         cases.push(Case { from, to, settings });
     };
 
-    add(plain(Xyb, Linear, Relative), plain(Rgb, Linear, Relative), 255.0, false);
-    add(plain(Grey, Linear, Perceptual), plain(Rgb, Linear, Perceptual), 255.0, false);
-    add(plain(Grey, Hlg, Relative), plain(Rgb, Linear, Relative), 255.0, false);
+    add(
+        plain(Xyb, Linear, Relative),
+        plain(Rgb, Linear, Relative),
+        255.0,
+        false,
+    );
+    add(
+        plain(Grey, Linear, Perceptual),
+        plain(Rgb, Linear, Perceptual),
+        255.0,
+        false,
+    );
+    add(
+        plain(Grey, Hlg, Relative),
+        plain(Rgb, Linear, Relative),
+        255.0,
+        false,
+    );
     let same_floats = EnumColourEncoding {
         white_point: WhitePoint::Custom(D65_BY_NUMBER),
         ..plain(Rgb, Linear, Relative)
@@ -132,21 +161,36 @@ fn fixed() -> Vec<Case> {
     for from in SPACES {
         for to in SPACES {
             for intent in INTENTS {
-                add(plain(from, Srgb, intent), plain(to, Linear, intent), 300.0, false);
+                add(
+                    plain(from, Srgb, intent),
+                    plain(to, Linear, intent),
+                    300.0,
+                    false,
+                );
             }
         }
     }
     for from in 0..9 {
         for to in 0..9 {
             let (from, to) = (curve(from, 4_545_455), curve(to, 4_545_455));
-            add(plain(Rgb, from, Relative), plain(Rgb, to, Relative), 1000.0, true);
+            add(
+                plain(Rgb, from, Relative),
+                plain(Rgb, to, Relative),
+                1000.0,
+                true,
+            );
         }
     }
     for intensity in INTENSITIES {
         for space in [Rgb, Grey] {
             for tf in [Srgb, Hlg, Pq] {
                 for from_pq in [false, true] {
-                    add(plain(Rgb, Pq, Perceptual), plain(space, tf, Perceptual), intensity, from_pq);
+                    add(
+                        plain(Rgb, Pq, Perceptual),
+                        plain(space, tf, Perceptual),
+                        intensity,
+                        from_pq,
+                    );
                 }
             }
         }

@@ -8,7 +8,10 @@ pub const LEAST: i32 = -2_097_152;
 pub const GREATEST: i32 = 2_097_151;
 
 /// D65 by its coordinates: its floats are those of the named one, and it is another white point.
-pub const D65_BY_NUMBER: Customxy = Customxy { x: 312_700, y: 329_000 };
+pub const D65_BY_NUMBER: Customxy = Customxy {
+    x: 312_700,
+    y: 329_000,
+};
 
 /// Chromaticities at which the matrices degenerate: a division by 0, two equal points, a point on a
 /// line with others, the ends of the range.
@@ -18,10 +21,19 @@ pub const ODD: [Customxy; 10] = [
     Customxy { x: 300_000, y: 0 },
     Customxy { x: 0, y: 1_000_000 },
     Customxy { x: 1_000_000, y: 0 },
-    Customxy { x: 333_333, y: 333_333 },
+    Customxy {
+        x: 333_333,
+        y: 333_333,
+    },
     Customxy { x: 1, y: -1 },
-    Customxy { x: LEAST, y: GREATEST },
-    Customxy { x: GREATEST, y: LEAST },
+    Customxy {
+        x: LEAST,
+        y: GREATEST,
+    },
+    Customxy {
+        x: GREATEST,
+        y: LEAST,
+    },
     D65_BY_NUMBER,
 ];
 
@@ -41,7 +53,11 @@ pub fn primaries_words(primaries: Primaries) -> Vec<u32> {
         Primaries::P3 => vec![2],
         Primaries::Custom { red, green, blue } => {
             let mut words = vec![3];
-            words.extend([red, green, blue].iter().flat_map(|p| [p.x as u32, p.y as u32]));
+            words.extend(
+                [red, green, blue]
+                    .iter()
+                    .flat_map(|p| [p.x as u32, p.y as u32]),
+            );
             words
         }
     }
@@ -51,7 +67,16 @@ impl Rng {
     fn coordinate(&mut self) -> i32 {
         match self.below(8) {
             0 => self.between(LEAST, GREATEST),
-            1 => self.pick(&[LEAST, LEAST + 1, -1, 0, 1, 1_000_000, GREATEST - 1, GREATEST]),
+            1 => self.pick(&[
+                LEAST,
+                LEAST + 1,
+                -1,
+                0,
+                1,
+                1_000_000,
+                GREATEST - 1,
+                GREATEST,
+            ]),
             _ => self.between(0, 1_000_000),
         }
     }
@@ -61,7 +86,10 @@ impl Rng {
         if self.one_in(4) {
             self.pick(&ODD)
         } else {
-            Customxy { x: self.coordinate(), y: self.coordinate() }
+            Customxy {
+                x: self.coordinate(),
+                y: self.coordinate(),
+            }
         }
     }
 

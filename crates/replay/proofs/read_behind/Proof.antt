@@ -21,19 +21,37 @@ part-rest-end c = search needs
 read-requires : tie.Need-read-requires
 read-requires c κs = search needs
 
-count-requires : tie.Need-count-requires
-count-requires c κs = search needs
-
 same-length : tie.Need-same-length
 same-length c = search needs
 
 returns : tie.Need-returns
 returns c =
-    let z = c .before .before .before .before .before .before .before .before .before .before in
+    let z = c .before .before .before .before .before .before .before .before .before in
     let h : z .args .left ≤ length (z .args .buf .now) = z .pre in
+    (omega arith, rw take-put)
+
+count-requires : tie.Need-count-requires
+count-requires c κs = search needs
+
+same-length-2 : tie.Need-same-length-2
+same-length-2 c = search needs
+
+returns-2 : tie.Need-returns-2
+returns-2 c =
+    let z = c .before .before .before .before .before .before .before .before .before .before .before .before in
+    let h : z .args .left ≤ length (z .args .buf .now) = z .pre in
+    (omega arith, rw take-put)
+
+same-length-3 : tie.Need-same-length-3
+same-length-3 c = search needs
+
+returns-3 : tie.Need-returns-3
+returns-3 c =
+    let z = c .before .before .before .before .before .before .before .before .before .before .before .before in
     let b = z .args .buf .now in
+    let h : z .args .left ≤ length b = z .pre in
     let e : length (midOf (z .args .left) (length b - z .args .left) b) ≡ length b - z .args .left = simp (length-take, length-drop) (omega arith) in
-    (omega (arith, c .before .before .count .ensures .0 .0, c .before .before .before .before .before .before .read .kept .1 .0, e), rw take-put)
+    (omega (arith, c .before .before .before .count .ensures .0 .0, c .before .before .before .before .before .before .before .before .read .kept .1 .0, e), rw take-put)
 
 pub read-behind-spec : {M : Type 1} → statement M
 read-behind-spec =
@@ -43,6 +61,10 @@ read-behind-spec =
     part-rest-start
     part-rest-end
     read-requires
-    count-requires
     same-length
-    returns)
+    returns
+    count-requires
+    same-length-2
+    returns-2
+    same-length-3
+    returns-3)

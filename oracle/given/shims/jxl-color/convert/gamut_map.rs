@@ -22,7 +22,10 @@ impl ColorTransform {
     pub fn from_words(begin_channels: usize, count: usize, words: &[u32]) -> Self {
         let mut words = words.iter().copied();
         let ops = (0..count).map(|_| op(&mut words)).collect();
-        Self { begin_channels, ops }
+        Self {
+            begin_channels,
+            ops,
+        }
     }
 
     /// The number of ops, and then each op.
@@ -44,7 +47,10 @@ impl ColorTransform {
 fn put(op: &ColorTransformOp, out: &mut Vec<u32>) {
     let floats = |out: &mut Vec<u32>, xs: &[f32]| out.extend(xs.iter().map(|&x| word(x)));
     match op {
-        ColorTransformOp::XybToMixedLms { opsin_bias, intensity_target } => {
+        ColorTransformOp::XybToMixedLms {
+            opsin_bias,
+            intensity_target,
+        } => {
             out.push(0);
             floats(out, opsin_bias);
             floats(out, &[*intensity_target]);
@@ -58,7 +64,11 @@ fn put(op: &ColorTransformOp, out: &mut Vec<u32>) {
             out.push(3);
             floats(out, matrix);
         }
-        ColorTransformOp::TransferFunction { tf, hdr_params, inverse } => {
+        ColorTransformOp::TransferFunction {
+            tf,
+            hdr_params,
+            inverse,
+        } => {
             out.push(4);
             out.extend(curve_words(*tf));
             out.push(*inverse as u32);
@@ -68,7 +78,11 @@ fn put(op: &ColorTransformOp, out: &mut Vec<u32>) {
             out.push(5);
             floats(out, &params(hdr_params));
         }
-        ColorTransformOp::ToneMapRec2408 { hdr_params, target_display_luminance, detect_peak }
+        ColorTransformOp::ToneMapRec2408 {
+            hdr_params,
+            target_display_luminance,
+            detect_peak,
+        }
         | ColorTransformOp::ToneMapLumaRec2408 {
             hdr_params,
             target_display_luminance,
@@ -80,7 +94,10 @@ fn put(op: &ColorTransformOp, out: &mut Vec<u32>) {
             floats(out, &[*target_display_luminance]);
             out.push(*detect_peak as u32);
         }
-        ColorTransformOp::GamutMap { luminances, saturation_factor } => {
+        ColorTransformOp::GamutMap {
+            luminances,
+            saturation_factor,
+        } => {
             out.push(8);
             floats(out, luminances);
             floats(out, &[*saturation_factor]);
@@ -101,7 +118,9 @@ fn op(words: &mut impl Iterator<Item = u32>) -> ColorTransformOp {
             opsin_bias: floats(words),
             intensity_target: float(words),
         },
-        1 => ColorTransformOp::LumaToXyz { illuminant: floats(words) },
+        1 => ColorTransformOp::LumaToXyz {
+            illuminant: floats(words),
+        },
         2 => ColorTransformOp::XyzToLuma,
         3 => ColorTransformOp::Matrix(floats(words)),
         4 => ColorTransformOp::TransferFunction {

@@ -1,0 +1,10 @@
+-- The contract determines its function's answer.
+-- The answer is said to equal one value, so two answers are equal.
+use mathlib.Core.Path.{sym, _∙_}
+use lib.Dec.{T}
+use Rattle.notation.proofs.Determines.{Determines}
+use Rattle.channels.proofs.same_lengths.Reads as same-lengths
+use Rattle.channels.proofs.same_lengths.Kinds as same-lengths-kinds
+
+pub same-lengths-determines : Determines 0 same-lengths-kinds.ps same-lengths-kinds.r same-lengths.Post (λ κs r s. r)
+same-lengths-determines κs a x y s t p q = p ∙ sym q

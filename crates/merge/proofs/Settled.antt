@@ -1,0 +1,50 @@
+-- A merged list has no two neighbouring matrices, merging it again gives the same list, and it is no longer than the list was;
+-- and a list whose first part was merged before merges to the same ops. From Grouping and Regrouping.
+use Prim.Native.Nat.{_≤_}
+use mathlib.Core.Path.{_≡_, refl, ap, sym, _∙_}
+use mathlib.Core.Bool.{Bool, true, false}
+use mathlib.Core.List.{List, [], _∷_, _++_, append-nil}
+use native.Mathlib.Omega.{arith}
+use lib.ListN.{length}
+use Rattle.ciexyz.specs.declared.Mat3.{Mat3}
+use Rattle.op.specs.Lists.{opsOf, wellFormed}
+use Rattle.op.specs.declared.Op.{Op}
+use Rattle.op.specs.declared.Op.the-variants as O
+use Rattle.op.specs.declared.Plan.{Plan}
+use Rattle.op.proofs.Building.{ops-of}
+use Rattle.op.proofs.Formed.{formed-exactly}
+use Rattle.merge.specs.Merge.{mergeOps, mergeOf}
+use Rattle.merge.proofs.Grouping.{nothing-lost, runs-longest}
+use Rattle.merge.proofs.Merging.{short, still-lawful}
+use Rattle.merge.proofs.Regrouping.{first-merged, no-neighbours}
+
+-- no two matrices are neighbours
+pub no-two-matrices : (os xs ys : List Op) (m n : Mat3) → ¬ (mergeOps os ≡ xs ++ (O.Matrix m ∷ O.Matrix n ∷ ys))
+no-two-matrices os = no-neighbours (runs-longest os)
+
+-- merging a part before changes nothing: "merging the joined list gives the same ops whether or not the first list was merged before"
+pub first-part : (os bs : List Op) → mergeOps (mergeOps os ++ bs) ≡ mergeOps (os ++ bs)
+first-part os bs = first-merged (runs-longest os) bs ∙ ap (λ (l : List Op). mergeOps (l ++ bs)) (nothing-lost os)
+
+-- merging again gives the same ops
+pub ops-again : (os : List Op) → mergeOps (mergeOps os) ≡ mergeOps os
+ops-again os = ap mergeOps (sym (append-nil (mergeOps os))) ∙ first-part os [] ∙ ap mergeOps (append-nil os)
+
+-- the merged list is no longer
+pub merged-count : (p : Plan) → mergeOf p .count ≤ p .count
+merged-count p = by (wellFormed (p .start) (p .count)) refl
+  where
+    by : (b : Bool) → wellFormed (p .start) (p .count) ≡ b → mergeOf p .count ≤ p .count
+    by true e = rw e (short p)
+    by false e = rw e (omega arith)
+
+-- merging again gives the same list
+pub merged-again : (p : Plan) → mergeOf (mergeOf p) ≡ mergeOf p
+merged-again p = by (wellFormed (p .start) (p .count)) refl
+  where
+    again : wellFormed (p .start) (p .count) ≡ true → wellFormed (p .start) (length (mergeOps (opsOf p))) ≡ true
+    again e = formed-exactly (p .start) (length (mergeOps (opsOf p))) .1 (still-lawful p (formed-exactly (p .start) (p .count) .0 e))
+
+    by : (b : Bool) → wellFormed (p .start) (p .count) ≡ b → mergeOf (mergeOf p) ≡ mergeOf p
+    by true e = rw (e, again e, ops-of (p .start) (mergeOps (opsOf p)), ops-again (opsOf p))
+    by false e = rw e

@@ -1,0 +1,4 @@
+-- What a run answers, and what it leaves in the three channels.
+pub mod Refusals
+pub mod Run
+pub mod Reach

@@ -1,0 +1,2 @@
+-- What byte a screen shows for a sample.
+pub mod Screen

@@ -1,0 +1,17 @@
+-- `clipped` is `clipOf`.
+-- Each return rewrites with the tests that led there.
+use lib.Dec.{T}
+use Rattle.steps.proofs.clipping.clipped.Statement.{statement}
+use Rattle.steps.proofs.clipping.clipped.Tie as tie
+
+returns : tie.Need-returns
+returns c = rw (c .if1 .taken)
+
+returns-2 : tie.Need-returns-2
+returns-2 c = rw (c .before .if1 .left, c .if2 .taken)
+
+returns-3 : tie.Need-returns-3
+returns-3 c = rw (c .before .if1 .left, c .if2 .left)
+
+pub clipped-spec : {M : Type 1} → statement M
+clipped-spec = tie.close (tie.spec returns returns-2 returns-3)

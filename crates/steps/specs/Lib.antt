@@ -1,0 +1,2 @@
+-- What the steps make of a sample.
+pub mod Samples

@@ -1,0 +1,39 @@
+// Matrix: each triple of samples by `matmul3vec`.
+ghost use mathlib.Core.Path.{_≡_};
+ghost use lib.ListN.{length};
+ghost use Rattle.ciexyz.specs.Matrix.{applied};
+ghost use Rattle.channels.specs.Channels.{channels, each, equallyLong};
+ghost use Rattle.channels.specs.Conversions.{conversionOf, inStep};
+use channels::Conversion;
+use ciexyz::Mat3;
+use ciexyz::Vec3;
+
+fn matrix_each(m: Mat3, a: &mut [f32], b: &mut [f32], c: &mut [f32])
+    requires { ⌜ (length (now b) ≡ length (now a)) × (length (now c) ≡ length (now a)) ⌝ }
+    ensures { λ _. ⌜ channels (now (a .exit)) (now (b .exit)) (now (c .exit)) ≡ each (applied m) (channels (now (a .entry)) (now (b .entry)) (now (c .entry))) ⌝ }
+{
+    let mut i: usize = 0;
+    while i < a.len() {
+        let sample = Vec3 {
+            v0: a[i],
+            v1: b[i],
+            v2: c[i],
+        };
+        let result = ciexyz::matmul3vec(m, sample);
+        a[i] = result.v0;
+        b[i] = result.v1;
+        c[i] = result.v2;
+        i += 1;
+    }
+}
+
+pub fn matrix(m: Mat3, a: &mut [f32], b: &mut [f32], c: &mut [f32]) -> Conversion
+    ensures { λ r. ⌜ r ≡ conversionOf (equallyLong (channels (now (a .entry)) (now (b .entry)) (now (c .entry)))) ⌝ }
+    ensures { λ _. ⌜ channels (now (a .exit)) (now (b .exit)) (now (c .exit)) ≡ inStep (applied m) (channels (now (a .entry)) (now (b .entry)) (now (c .entry))) ⌝ }
+{
+    if channels::same_lengths(a.len(), b.len(), c.len()) {
+        matrix_each(m, a, b, c);
+        return Conversion::Done;
+    }
+    Conversion::Unequal
+}

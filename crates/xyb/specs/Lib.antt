@@ -1,0 +1,2 @@
+-- What inverting XYB makes of a sample.
+pub mod Xyb

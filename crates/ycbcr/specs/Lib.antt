@@ -1,0 +1,2 @@
+-- What YCbCr to RGB makes of a sample.
+pub mod Ycbcr
