@@ -1,7 +1,6 @@
 -- `cbrt`'s contract determines its answer.
 -- The answer is said to equal one value, so two answers are equal.
 use mathlib.Core.Path.{sym, _∙_}
-use lib.Dec.{T}
 use Rattle.notation.proofs.Determines.{Determines}
 use Rattle.cbrt.proofs.cbrt.Reads as cbrt
 use Rattle.cbrt.proofs.cbrt.Kinds as cbrt-kinds

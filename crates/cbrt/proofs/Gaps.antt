@@ -5,7 +5,6 @@ use mathlib.Core.Logic.{inl, inr, _⊎_}
 use Prim.Native.Nat.{_*_, _+_, _-_, _<_, _^_, ℕ, _≤_}
 use native.Mathlib.Nat.{le-of-eq, le-of-lt, le-trans, lt-of-le-of-lt, lt-of-lt-of-le, lt-of-mul-lt-mul-right, mul-le-mul-right, suc-mul}
 use native.Mathlib.Omega.{arith}
-use lib.Dec.{T}
 use lib.Pow.{pow-add, pow-mono, pow-pos, shl-lt}
 use lib.Ieee.{size}
 use lib.Ieee.Digits.{size-reaches}

@@ -4,7 +4,6 @@ use mathlib.Core.Path.{refl, _≡_}
 use mathlib.Core.Bool.{_&&_, Bool, not, true}
 use mathlib.Core.List.{List, [], _∷_}
 use Prim.Native.Nat.{_+_, _-_, ℕ}
-use lib.Dec.{T}
 use lib.Ieee.{ofBits, size}
 use Rattle.notation.specs.F32.{bits}
 use Rattle.cbrt.specs.Root.{isRoot}

@@ -4,7 +4,6 @@ use mathlib.Core.Path.{ap, refl, sym, _∙_, _≡_}
 use Prim.Native.Nat.{_%_, _*_, _+_, _-_, _/_, _<_, _^_, suc, zero, ℕ, _≤_}
 use native.Mathlib.Nat.{lt-of-lt-of-le, mul-assoc, mul-comm, mul-left-comm, mul-one}
 use native.Mathlib.Omega.{arith}
-use lib.Dec.{T}
 use lib.Pow.{pow-add, pow-mono, shl-exact, shl-lt}
 use Rattle.cbrt.proofs.Cubes.{cube-mul}
 use Rattle.cbrt.specs.Root.{cube}

@@ -4,7 +4,6 @@ use mathlib.Core.Path.{sym, _≡_}
 use mathlib.Core.Bool.{false, true}
 use mathlib.Core.List.{List}
 use borrow.Author.Tests.{eq-eqb}
-use lib.Dec.{T}
 use lib.ListN.{length}
 use lib.Ieee.{Float}
 use Rattle.channels.specs.Channels.{Channels, channels, each, equallyLong}

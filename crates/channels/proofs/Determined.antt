@@ -1,7 +1,6 @@
 -- The contract determines its function's answer.
 -- The answer is said to equal one value, so two answers are equal.
 use mathlib.Core.Path.{sym, _∙_}
-use lib.Dec.{T}
 use Rattle.notation.proofs.Determines.{Determines}
 use Rattle.channels.proofs.same_lengths.Reads as same-lengths
 use Rattle.channels.proofs.same_lengths.Kinds as same-lengths-kinds

@@ -7,7 +7,7 @@ use Prim.Native.Nat.{_+_, _<_, suc, zero, ℕ, _≤_}
 use native.Mathlib.Nat.{le-of-eq, le-of-suc-le-suc, lt-of-lt-of-le, not-suc-le-zero}
 use native.Mathlib.Omega.{arith}
 use borrow.Author.Tests.{eqb-true}
-use lib.Dec.{T, eqb}
+use lib.Dec.{eqb}
 use lib.ListN.{getD, length, length-map, set}
 use lib.Ieee.{Float, nan}
 use Rattle.channels.proofs.Rewriting.{Rewritten, begun, ended, map-at, read, write}

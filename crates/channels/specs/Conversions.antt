@@ -1,7 +1,6 @@
 -- "4 | run or conversion: lent lengths unequal | no buffer changed, width 0" (01, Refusal numbers). Definitions only.
 use Prim.Native.Nat.{ℕ}
 use mathlib.Core.Bool.{Bool}
-use lib.Ieee.{Float}
 use Rattle.notation.specs.Choice.{if_then_else_}
 use Rattle.ciexyz.specs.declared.Vec3.{Vec3}
 use Rattle.channels.specs.declared.Conversion.{Conversion}

@@ -6,7 +6,7 @@ use mathlib.Core.Bool.{_&&_, Bool, Bool·beq, cond, false, not, true}
 use Prim.Native.Nat.{_*_, _+_, _-_, _/_, _<_, _^_, ℕ, _≤_}
 use native.Mathlib.Nat.{add-comm, add-zero, eq-or-lt-of-le, le-of-eq, le-of-lt, le-trans, lt-of-lt-of-le, lt-of-not-le, mul-assoc, mul-le-mul, mul-le-mul-right, mul-pos, mul-right-comm, not-le-of-lt, zero-add, zero-mul}
 use native.Mathlib.Omega.{arith}
-use lib.Dec.{T, lit≤}
+use lib.Dec.{lit≤}
 use lib.Pow.{pow-add, pow-mono, pow-pos, shl-lt}
 use lib.Ieee.{binary32, round, sum, units}
 use lib.Ieee.Scale.{round-same}

@@ -2,7 +2,6 @@
 -- The answer is said to equal one value, so two answers are equal.
 use mathlib.Core.Path.{sym, _∙_}
 use native.Mathlib.Nat.{mul-add}
-use lib.Dec.{T}
 use Rattle.notation.proofs.Determines.{Determines}
 use Rattle.fused.proofs.mul_add.Reads as mul-add
 use Rattle.fused.proofs.mul_add.Kinds as mul-add-kinds

@@ -4,7 +4,6 @@ use mathlib.Core.Path.{ap, sym, _∙_, _≡_}
 use mathlib.Core.Bool.{Bool}
 use Prim.Native.Nat.{_*_, _+_, _<_, _^_, ℕ}
 use native.Mathlib.Nat.{le-of-lt, le-refl, lt-of-le-of-lt, mul-assoc, mul-comm, mul-le-mul, mul-left-comm, mul-lt-mul-of-pos-right, mul-mul-mul-comm, mul-pos, zero-lt-suc}
-use lib.Dec.{T}
 use lib.Pow.{pow-add, pow-pos}
 use lib.Ieee.{Float, binary32, down, fin, inf, nan, sum, unlike, up}
 use lib.Ieee.Exact.{HasValue}

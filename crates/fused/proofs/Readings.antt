@@ -4,7 +4,7 @@ use mathlib.Core.Path.{refl, _≡_}
 use mathlib.Core.Bool.{_&&_, Bool, true}
 use mathlib.Core.List.{List, [], _∷_}
 use Prim.Native.Nat.{ℕ}
-use lib.Dec.{T, eqb}
+use lib.Dec.{eqb}
 use lib.Ieee.{binary32, ofBits, sum, toBits}
 use Rattle.notation.specs.F32.{bits}
 use Rattle.fused.specs.Fused.{fused}

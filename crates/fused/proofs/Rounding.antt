@@ -6,7 +6,6 @@ use mathlib.Core.Bool.{Bool}
 use Prim.Native.Nat.{_*_, _+_, _-_, _/_, _<_, _^_, suc, ℕ, _≤_}
 use native.Mathlib.Nat.{div-lt-iff-lt-mul, le-div-iff-mul-le, le-of-eq, le-trans, lt-of-lt-of-le, mul-assoc, mul-comm, mul-le-mul-right, mul-pos, one-mul, suc-add, suc-mul}
 use native.Mathlib.Omega.{arith}
-use lib.Dec.{T}
 use lib.Pow.{pow-add, pow-mono, pow-pos, shl-lt}
 use lib.Ieee.{binary32, round, size, units}
 use lib.Ieee.Digits.{size-le, size-lt, size-reaches}

@@ -6,7 +6,7 @@ use mathlib.Core.Bool.{Bool}
 use Prim.Native.Nat.{_*_, _+_, _-_, _<_, _^_, ℕ, _≤_}
 use native.Mathlib.Nat.{add-comm, le-div-iff-mul-le, lt-of-lt-of-le, mul-assoc, zero-add}
 use native.Mathlib.Omega.{arith}
-use lib.Dec.{T, lit≤}
+use lib.Dec.{lit≤}
 use lib.Pow.{pow-add, pow-mono, pow-pos}
 use lib.Ieee.{binary32, round}
 use lib.Ieee.Nearest.{closest}

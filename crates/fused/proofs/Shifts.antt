@@ -7,7 +7,6 @@ use native.Mathlib.Nat.{add-mul, div-add-mod', div-mul-le-self, le-of-eq, le-of-
 use native.Mathlib.Omega.{arith}
 use lib.Arith.{lt-of-le-ne}
 use lib.Count.{leading-top, leadingZeros}
-use lib.Dec.{T}
 use lib.Pow.{pow-add, pow-lt, pow-mono, pow-pos, shl-lt}
 use Rattle.fused.specs.Steps.{Jammed}
 

@@ -4,7 +4,7 @@ use mathlib.Core.Path.{ap, refl, sym, _∙_, _≡_}
 use mathlib.Core.List.{List, [], map, _∷_}
 use Prim.Native.Nat.{ℕ}
 use native.Mathlib.Omega.{arith}
-use lib.Dec.{T, leb, lit≤}
+use lib.Dec.{leb, lit≤}
 use lib.ListN.{length}
 use lib.Ieee.{Float}
 use Rattle.channels.specs.Channels.{Channels, channels, each, triples, vec}
@@ -20,7 +20,6 @@ use Rattle.ciexyz.specs.Matrix as Matrix
 use Rattle.ciexyz.specs.declared.Vec3.{Vec3}
 use Rattle.ciexyz.specs.declared.Xy.{Xy}
 use Rattle.op.specs.declared.Op.{Op}
-use Rattle.op.specs.declared.Op.the-variants as O
 
 -- channels that agree within width 3 are the same
 all-same : {s t : Channels} → Agree 3 s t → s ≡ t

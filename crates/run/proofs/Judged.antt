@@ -6,7 +6,6 @@ use mathlib.Core.List.{[], _∷_}
 use Prim.Native.Nat.{ℕ}
 use native.Mathlib.Omega.{arith}
 use denote.Enum.Declared.{tagOf}
-use lib.Dec.{T}
 use lib.ListN.{length}
 use types.Run.{OneOf, miss}
 use Rattle.notation.specs.Choice.{if_then_else_}

@@ -5,7 +5,7 @@ use mathlib.Core.Bool.{Bool, false, true}
 use mathlib.Core.List.{List, [], map, _∷_}
 use Prim.Native.Nat.{ℕ}
 use borrow.Author.Tests.{eq-eqb}
-use lib.Dec.{T, leb}
+use lib.Dec.{leb}
 use lib.ListN.{length, length-map}
 use lib.Ieee.{Float}
 use Rattle.channels.proofs.InStep.{length-triples, lengths-same}

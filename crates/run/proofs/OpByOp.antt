@@ -3,7 +3,6 @@
 use mathlib.Core.Path.{ap, refl, subst, sym, _∙_, _≡_}
 use mathlib.Core.List.{_++_, List, [], _∷_}
 use Prim.Native.Nat.{ℕ}
-use lib.Dec.{T}
 use lib.ListN.{length}
 use Rattle.channels.specs.Channels.{Channels}
 use Rattle.op.proofs.Steps.{step-gives}

@@ -6,7 +6,6 @@ use mathlib.Core.Bool.{true}
 use mathlib.Core.List.{List}
 use Prim.Native.Nat.{_+_, ℕ, _≤_}
 use native.Mathlib.Omega.{arith}
-use lib.Dec.{T}
 use lib.ListN.{length}
 use Rattle.channels.specs.Channels.{Channels, equallyLong}
 use Rattle.op.proofs.Formed.{formed-exactly}
@@ -27,8 +26,7 @@ use Rattle.width.specs.declared.Verdict.{Verdict}
 use Rattle.width.specs.declared.Verdict.the-variants as Verdict
 use Rattle.run.specs.declared.Outcome.{Outcome}
 use Rattle.run.specs.declared.Outcome.the-variants.{Done, Malformed, Unequal, Misfit, NotCarried}
-use Rattle.run.specs.declared.judging.Uncarried.{Uncarried}
-use Rattle.run.specs.declared.judging.Uncarried.the-variants.{At, Nowhere}
+use Rattle.run.specs.declared.judging.Uncarried.the-variants.{Nowhere}
 
 -- ops that are all carried have none that is not
 none-uncarried : {os : List Op} → AllCarried os → (i : ℕ) → uncarriedFrom i os ≡ Nowhere

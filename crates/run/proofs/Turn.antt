@@ -4,7 +4,6 @@ use mathlib.Core.Path.{_≡_}
 use mathlib.Core.Bool.{Bool, false, true}
 use mathlib.Core.List.{List, map}
 use Prim.Native.Nat.{_+_, _<_, ℕ, _≤_}
-use lib.Dec.{T}
 use lib.ListN.{drop, getD, length, take}
 use Rattle.channels.specs.Channels.{Channels}
 use Rattle.op.proofs.Walk.{next-op, no-more}

@@ -2,7 +2,6 @@
 -- A refusal returns before the ops run; where the answer is `Done` the list is well formed and the lengths are equal.
 use mathlib.Core.Path.{sym, _∙_, _≡_}
 use borrow.Author.Needs.{needs}
-use lib.Dec.{T}
 use lib.ListN.{length}
 use Rattle.channels.proofs.InStep.{lengths-same}
 use Rattle.channels.specs.Channels.{Channels, channels}

@@ -5,7 +5,6 @@ use mathlib.Core.List.{map}
 use Prim.Native.Nat.{_-_, _<_}
 use native.Mathlib.Omega.{arith}
 use borrow.Author.Needs.{needs}
-use lib.Dec.{T}
 use lib.ListN.{length}
 use lib.Ieee.{nan}
 use Rattle.channels.proofs.Rewriting.{Rewritten, ended, map-at, map-begun, write}

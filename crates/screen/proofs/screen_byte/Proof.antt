@@ -1,7 +1,6 @@
 -- `screen_byte` is `screenByte`.
 -- The code is the definition, with the clipping and the cast by their contracts.
 use borrow.Author.Needs.{needs}
-use lib.Dec.{T}
 use Rattle.screen.specs.Screen.{screenByte}
 use Rattle.screen.proofs.screen_byte.Statement.{statement}
 use Rattle.screen.proofs.screen_byte.Tie as tie

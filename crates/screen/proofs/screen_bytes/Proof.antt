@@ -2,7 +2,6 @@
 -- The test of the lengths decides.
 use borrow.Author.Needs.{needs}
 use borrow.Author.Tests.{eq-eqb, ne-eqb}
-use lib.Dec.{T}
 use Rattle.screen.proofs.screen_bytes.Statement.{statement}
 use Rattle.screen.proofs.screen_bytes.Tie as tie
 

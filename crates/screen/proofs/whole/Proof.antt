@@ -2,7 +2,6 @@
 -- Below 1, below 256, a NaN, the rest: a law of `Bytes` each.
 use mathlib.Core.Path.{ap, sym, _∙_}
 use native.Mathlib.Omega.{arith}
-use lib.Dec.{T}
 use lib.Ieee.{toUnsigned}
 use Rattle.binary32.proofs.Nan.{is-nan, not-nan}
 use Rattle.screen.proofs.Bytes.{above, below-one, between}

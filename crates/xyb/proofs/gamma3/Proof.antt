@@ -2,7 +2,6 @@
 -- The code is the definition, with the fused step by its contract.
 use mathlib.Core.Path.{ap}
 use borrow.Author.Needs.{needs}
-use lib.Dec.{T}
 use lib.Ieee.{Float}
 use Rattle.notation.specs.F32.{_*f_}
 use Rattle.xyb.specs.Xyb.{mixed}

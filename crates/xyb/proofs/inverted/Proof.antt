@@ -1,7 +1,6 @@
 -- `inverted` is `mixedBy`.
 -- Each of the three is `mixed`, by `gamma3`'s contract.
 use borrow.Author.Needs.{needs}
-use lib.Dec.{T}
 use Rattle.xyb.specs.Xyb.{mixedBy}
 use Rattle.xyb.proofs.inverted.Statement.{statement}
 use Rattle.xyb.proofs.inverted.Tie as tie

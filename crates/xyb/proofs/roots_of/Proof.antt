@@ -1,7 +1,6 @@
 -- `roots_of` is `rootsOf`.
 -- Each of the three is the cube root, by `cbrt`'s contract.
 use borrow.Author.Needs.{needs}
-use lib.Dec.{T}
 use Rattle.xyb.specs.Xyb.{rootsOf}
 use Rattle.xyb.proofs.roots_of.Statement.{statement}
 use Rattle.xyb.proofs.roots_of.Tie as tie

@@ -2,7 +2,6 @@
 -- The test of the lengths decides; the roots are `rootsOf` the biases.
 use mathlib.Core.Path.{ap, sym, _∙_}
 use borrow.Author.Needs.{needs}
-use lib.Dec.{T}
 use Rattle.notation.specs.F32.{_/f_, bits}
 use Rattle.channels.proofs.Converting.{converted, left-alone}
 use Rattle.channels.proofs.InStep.{lengths-same}

@@ -1,7 +1,6 @@
 -- `rgb` is `rgbOf`.
 -- Each of the three is fused, by `mul_add`'s contract.
 use borrow.Author.Needs.{needs}
-use lib.Dec.{T}
 use Rattle.ycbcr.specs.Ycbcr.{greenOfCb, greenOfCr, raised, rgbOf}
 use Rattle.ycbcr.proofs.rgb.Statement.{statement}
 use Rattle.ycbcr.proofs.rgb.Tie as tie

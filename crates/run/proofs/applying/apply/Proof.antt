@@ -3,7 +3,6 @@
 use mathlib.Core.Path.{sym, _∙_}
 use borrow.Author.Needs.{needs}
 use borrow.Author.Tests.{eq-eqb}
-use lib.Dec.{T}
 use lib.ListN.{length}
 use Rattle.channels.proofs.Converting.{all-in-step}
 use Rattle.run.specs.Run.{applied}

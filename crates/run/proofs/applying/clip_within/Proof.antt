@@ -1,7 +1,6 @@
 -- `clip_within` clips the channels within the width.
 -- Each call says what it leaves.
 use borrow.Author.Needs.{needs}
-use lib.Dec.{T}
 use Rattle.run.proofs.applying.clip_within.Statement.{statement}
 use Rattle.run.proofs.applying.clip_within.Tie as tie
 

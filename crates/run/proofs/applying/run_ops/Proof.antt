@@ -5,7 +5,6 @@ use mathlib.Core.List.{map}
 use Prim.Native.Nat.{_-_, _<_, _≤_}
 use native.Mathlib.Omega.{arith}
 use borrow.Author.Needs.{needs}
-use lib.Dec.{T}
 use lib.ListN.{drop, length, take}
 use Rattle.binary32.specs.Parts.{count}
 use Rattle.channels.specs.Channels.{channels}

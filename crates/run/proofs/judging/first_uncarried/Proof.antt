@@ -6,7 +6,6 @@ use Prim.Native.Nat.{_-_, _<_, _≤_}
 use native.Mathlib.Omega.{arith}
 use borrow.Author.Needs.{needs}
 use borrow.Author.Tests.{not-false, not-true}
-use lib.Dec.{T}
 use lib.ListN.{drop, length, take}
 use Rattle.binary32.specs.Parts.{count}
 use Rattle.op.specs.Lists.{opOf}

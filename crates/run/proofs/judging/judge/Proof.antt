@@ -3,7 +3,6 @@
 use mathlib.Core.Path.{sym, _∙_}
 use borrow.Author.Needs.{needs}
 use borrow.Author.Tests.{not-false, not-true}
-use lib.Dec.{T}
 use Rattle.op.proofs.Formed.{formed-exactly}
 use Rattle.run.proofs.Judged.{judged}
 use Rattle.run.proofs.judging.judge.Statement.{statement}

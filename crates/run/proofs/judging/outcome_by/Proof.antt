@@ -1,7 +1,6 @@
 -- `outcome_by` is `outcomeBy`.
 -- Each arm rewrites with the case that it took.
 use borrow.Author.Needs.{needs}
-use lib.Dec.{T}
 use Rattle.run.proofs.judging.outcome_by.Statement.{statement}
 use Rattle.run.proofs.judging.outcome_by.Tie as tie
 

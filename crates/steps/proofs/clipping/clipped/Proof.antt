@@ -1,6 +1,5 @@
 -- `clipped` is `clipOf`.
 -- Each return rewrites with the tests that led there.
-use lib.Dec.{T}
 use Rattle.steps.proofs.clipping.clipped.Statement.{statement}
 use Rattle.steps.proofs.clipping.clipped.Tie as tie
 

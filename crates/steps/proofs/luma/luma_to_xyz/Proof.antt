@@ -2,7 +2,6 @@
 -- The test of the lengths decides.
 use mathlib.Core.Path.{sym, _∙_}
 use borrow.Author.Needs.{needs}
-use lib.Dec.{T}
 use Rattle.channels.proofs.Converting.{converted, left-alone}
 use Rattle.channels.proofs.InStep.{lengths-same}
 use Rattle.channels.specs.Channels.{channels}

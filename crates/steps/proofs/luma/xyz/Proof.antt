@@ -1,7 +1,6 @@
 -- `xyz` is `xyzOfLuma`.
 -- The code is the definition.
 use mathlib.Core.Path.{refl}
-use lib.Dec.{T}
 use Rattle.steps.specs.Samples.{xyzOfLuma}
 use Rattle.steps.proofs.luma.xyz.Statement.{statement}
 use Rattle.steps.proofs.luma.xyz.Tie as tie

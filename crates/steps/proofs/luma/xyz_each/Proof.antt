@@ -3,7 +3,6 @@
 use Prim.Native.Nat.{_-_}
 use native.Mathlib.Omega.{arith}
 use borrow.Author.Needs.{needs}
-use lib.Dec.{T}
 use lib.ListN.{length}
 use Rattle.channels.proofs.InStep.{Stepped, stepped, steps-begun, steps-ended}
 use Rattle.steps.specs.Samples.{xyzOfLuma}

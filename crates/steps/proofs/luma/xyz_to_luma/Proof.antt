@@ -3,7 +3,6 @@
 use mathlib.Core.Path.{sym}
 use borrow.Author.Needs.{needs}
 use borrow.Author.Tests.{eq-eqb, ne-eqb}
-use lib.Dec.{T}
 use Rattle.steps.proofs.luma.xyz_to_luma.Statement.{statement}
 use Rattle.steps.proofs.luma.xyz_to_luma.Tie as tie
 
