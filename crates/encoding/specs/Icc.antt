@@ -1,0 +1,25 @@
+-- "ICC channel count of a byte slice: under 20 bytes 3; else bytes 16 to 19 `GRAY` 1, `CMYK` 4, others 3." (01, Samples)
+use Prim.Native.Nat.{ℕ}
+use mathlib.Core.Bool.{Bool}
+use mathlib.Core.List.{List, [], _∷_}
+use lib.Dec.{eqb, ltb}
+use lib.ListN.{length, take, drop}
+use Rattle.notation.specs.Choice.{if_then_else_}
+use Rattle.same.specs.Same.{sameAll}
+
+abbrev pub gray : List ℕ
+gray = 0x47 ∷ 0x52 ∷ 0x41 ∷ 0x59 ∷ []
+
+abbrev pub cmyk : List ℕ
+cmyk = 0x43 ∷ 0x4d ∷ 0x59 ∷ 0x4b ∷ []
+
+-- whether bytes 16 to 19 of a profile are these
+abbrev pub signatureIs : List ℕ → List ℕ → Bool
+signatureIs s profile = sameAll eqb (take 4 (drop 16 profile)) s
+
+abbrev pub iccChannels : List ℕ → ℕ
+iccChannels profile =
+    if ltb (length profile) 20 then 3
+    else if signatureIs gray profile then 1
+    else if signatureIs cmyk profile then 4
+    else 3

@@ -1,0 +1,125 @@
+-- Each pair of sides belongs to one row of 01's table, and to no other; planning answers by that row.
+-- By the three tests of two enum encodings, each of which holds exactly where its words do.
+use Prim.Native.Nat.{ℕ, zero, suc}
+use mathlib.Core.Path.{_≡_, refl, ap, sym, subst, _∙_}
+use mathlib.Core.Bool.{Bool, true, false}
+use mathlib.Core.List.{List, []}
+use mathlib.Core.Logic.{_↔_, _⊎_, inl, inr, ⊎-elim}
+use native.Mathlib.Omega.{arith}
+use Rattle.op.specs.Lists.{planOf}
+use Rattle.op.specs.declared.Op.{Op}
+use Rattle.merge.specs.Merge.{mergeOps}
+use Rattle.encoding.specs.Encodings.{channelsOf}
+use Rattle.encoding.specs.Equivalence.{equivalent, Equivalent}
+use Rattle.encoding.specs.Ranges.{Outside}
+use Rattle.encoding.specs.declared.ColourSpace.the-variants as S
+use Rattle.encoding.specs.declared.EnumColourEncoding.{EnumColourEncoding}
+use Rattle.encoding.specs.declared.ColourEncoding.{ColourEncoding}
+use Rattle.encoding.specs.declared.ColourEncoding.the-variants as E
+use Rattle.encoding.specs.declared.Settings.{Settings}
+use Rattle.stages.specs.Stages.{stageOps}
+use Rattle.encoding.proofs.SameValues.{same-space-exactly}
+use Rattle.encoding.proofs.Equivalence.{equivalent-exactly}
+use Rattle.encoding.proofs.OutOfRange.{outside-exactly}
+use Rattle.encoding.proofs.Tests.{fails-exactly, negated, either-exactly}
+use Rattle.planner.specs.Planning.{numberOf, refusal, done, outOfRange, unsupported, planned, plannedOf}
+use Rattle.planner.specs.Refusals.{IsIcc, IsOutside, Lacks, IsUnsupported}
+use Rattle.planner.specs.declared.Planning.{Planning}
+use Rattle.planner.specs.declared.Planned.{Planned}
+use Rattle.planner.specs.declared.Planning.the-variants.{Done, Icc, OutOfRange, Unsupported}
+
+numbered : (p q : Planning) → numberOf p ≡ numberOf q → p ≡ q
+numbered p q e = sym (back p) ∙ ap by e ∙ back q
+  where
+    by : ℕ → Planning
+    by zero = Done
+    by (suc zero) = Icc
+    by (suc (suc zero)) = OutOfRange
+    by (suc (suc (suc n))) = Unsupported
+
+    back : (p : Planning) → by (numberOf p) ≡ p
+    back Done = refl
+    back Icc = refl
+    back OutOfRange = refl
+    back Unsupported = refl
+
+-- the tests of two enum encodings, in words
+module _ (s t : EnumColourEncoding) where
+  is-outside : (outOfRange s t ≡ true) ↔ (Outside s ⊎ Outside t)
+  is-outside = either-exactly (negated (outside-exactly s)) (negated (outside-exactly t))
+
+  lacks : (unsupported s t ≡ true) ↔ Lacks s t
+  lacks =
+      either-exactly (same-space-exactly (s .«colour_space») S.Unknown)
+      (either-exactly (same-space-exactly (t .«colour_space») S.Xyb) (same-space-exactly (t .«colour_space») S.Unknown))
+
+  not-icc : ¬ IsIcc (E.Enum s) (E.Enum t)
+  not-icc = ⊎-elim (λ e. let z : _≡_ {A = ℕ} 0 1 = cc in omega arith) (λ e. let z : _≡_ {A = ℕ} 0 1 = cc in omega arith)
+
+-- the four answers to two enum encodings, and when each is given
+module _ (s t : EnumColourEncoding) (settings : Settings) where
+  pub data Sorted : Planned → Type 0 where
+    outside : Outside s ⊎ Outside t → Sorted (refusal OutOfRange)
+    same : ¬ (Outside s ⊎ Outside t) → Equivalent s t → Sorted (done (channelsOf s) [])
+    lacking : ¬ (Outside s ⊎ Outside t) → ¬ Equivalent s t → Lacks s t → Sorted (refusal Unsupported)
+    made : ¬ (Outside s ⊎ Outside t) → ¬ Equivalent s t → ¬ Lacks s t → Sorted (done (channelsOf s) (mergeOps (stageOps s t settings)))
+
+  pub sorted : Sorted (planned s t settings)
+  sorted = by (outOfRange s t) (equivalent s t) (unsupported s t) refl refl refl
+    where
+      by : (o e u : Bool) → outOfRange s t ≡ o → equivalent s t ≡ e → unsupported s t ≡ u → Sorted (planned s t settings)
+      by true e u p q r = rw p (outside (is-outside s t .0 p))
+      by false true u p q r = rw (p, q) (same (fails-exactly (is-outside s t) .0 p) (equivalent-exactly s t .0 q))
+      by false false true p q r = rw (p, q, r) (lacking (fails-exactly (is-outside s t) .0 p) (fails-exactly (equivalent-exactly s t) .0 q) (lacks s t .0 r))
+      by false false false p q r = rw (p, q, r) (made (fails-exactly (is-outside s t) .0 p) (fails-exactly (equivalent-exactly s t) .0 q) (fails-exactly (lacks s t) .0 r))
+
+module _ (source target : ColourEncoding) where
+  -- the rows
+  abbrev pub Row : Planning → Type 0
+  Row Icc = IsIcc source target
+  Row OutOfRange = (¬ IsIcc source target) × IsOutside source target
+  Row Unsupported = (¬ IsIcc source target) × (¬ IsOutside source target) × IsUnsupported source target
+  Row Done = (¬ IsIcc source target) × (¬ IsOutside source target) × (¬ IsUnsupported source target)
+
+  one-row : (p q : Planning) → Row p → Row q → p ≡ q
+  one-row Icc Icc a b = refl
+  one-row Icc OutOfRange a b = absurd (b .0 a)
+  one-row Icc Unsupported a b = absurd (b .0 a)
+  one-row Icc Done a b = absurd (b .0 a)
+  one-row OutOfRange Icc a b = absurd (a .0 b)
+  one-row OutOfRange OutOfRange a b = refl
+  one-row OutOfRange Unsupported a b = absurd (b .1 (a .1))
+  one-row OutOfRange Done a b = absurd (b .1 (a .1))
+  one-row Unsupported Icc a b = absurd (a .0 b)
+  one-row Unsupported OutOfRange a b = absurd (a .1 (b .1))
+  one-row Unsupported Unsupported a b = refl
+  one-row Unsupported Done a b = absurd (b .2 (a .2))
+  one-row Done Icc a b = absurd (a .0 b)
+  one-row Done OutOfRange a b = absurd (a .1 (b .1))
+  one-row Done Unsupported a b = absurd (a .2 (b .2))
+  one-row Done Done a b = refl
+
+  -- what is told of a plan for these sides: its row; the empty list with width 0 where it is refused; merged ops in any case
+  pub record Told (p : Planned) : Type 0 where
+    pub row : Row (p .answer)
+    pub empty : ¬ (numberOf (p .answer) ≡ 0) → p .plan ≡ planOf 0 []
+    pub start : ℕ
+    pub ops : List Op
+    pub merged : p .plan ≡ planOf start (mergeOps ops)
+
+told-of-enums : (s t : EnumColourEncoding) (settings : Settings) {p : Planned} → Sorted s t settings p → Told (E.Enum s) (E.Enum t) p
+told-of-enums s t settings (outside o) = record { row = (not-icc s t, o); empty = λ n. refl; start = 0; ops = []; merged = refl }
+told-of-enums s t settings (same i e) = record { row = (not-icc s t, i, λ h. h .0 e); empty = λ n. absurd (n refl); start = channelsOf s; ops = []; merged = refl }
+told-of-enums s t settings (lacking i d l) = record { row = (not-icc s t, i, (d, l)); empty = λ n. refl; start = 0; ops = []; merged = refl }
+told-of-enums s t settings (made i d l) = record { row = (not-icc s t, i, λ h. l (h .1)); empty = λ n. absurd (n refl); start = channelsOf s; ops = stageOps s t settings; merged = refl }
+
+pub told : (source target : ColourEncoding) (settings : Settings) → Told source target (plannedOf source target settings)
+told E.IccProfile target settings = record { row = inl refl; empty = λ n. refl; start = 0; ops = []; merged = refl }
+told (E.Enum s) E.IccProfile settings = record { row = inr refl; empty = λ n. refl; start = 0; ops = []; merged = refl }
+told (E.Enum s) (E.Enum t) settings = told-of-enums s t settings (sorted s t settings)
+
+module _ (source target : ColourEncoding) (settings : Settings) where
+  pub exactly : (p : Planning) → (numberOf (plannedOf source target settings .answer) ≡ numberOf p) ↔ Row source target p
+  exactly p =
+      let r = told source target settings .row in
+      (λ e. subst (Row source target) (numbered (plannedOf source target settings .answer) p e) r, λ q. ap numberOf (one-row source target (plannedOf source target settings .answer) p r q))

@@ -1,0 +1,58 @@
+-- What planning answers. "Order: planning 1, 2, equivalence, 3." (01, Refusal numbers)
+use Prim.Native.Nat.{ℕ}
+use mathlib.Core.Bool.{Bool, not, _||_}
+use mathlib.Core.List.{List, []}
+use Rattle.notation.specs.Choice.{if_then_else_}
+use Rattle.op.specs.Lists.{planOf}
+use Rattle.op.specs.declared.Op.{Op}
+use Rattle.merge.specs.Merge.{mergeOps}
+use Rattle.encoding.specs.Encodings.{channelsOf}
+use Rattle.encoding.specs.Same.{sameSpace}
+use Rattle.encoding.specs.Equivalence.{equivalent}
+use Rattle.encoding.specs.Ranges.{inRange}
+use Rattle.encoding.specs.declared.ColourSpace.the-variants as S
+use Rattle.encoding.specs.declared.EnumColourEncoding.{EnumColourEncoding}
+use Rattle.encoding.specs.declared.ColourEncoding.{ColourEncoding}
+use Rattle.encoding.specs.declared.ColourEncoding.the-variants as E
+use Rattle.encoding.specs.declared.Settings.{Settings}
+use Rattle.stages.specs.Stages.{stageOps}
+use Rattle.planner.specs.declared.Planning.{Planning}
+use Rattle.planner.specs.declared.Planning.the-variants.{Done, Icc, OutOfRange, Unsupported}
+use Rattle.planner.specs.declared.Planned.{Planned}
+
+-- 01's numbers; "success is 0"
+abbrev pub numberOf : Planning → ℕ
+numberOf Done = 0
+numberOf Icc = 1
+numberOf OutOfRange = 2
+numberOf Unsupported = 3
+
+-- a refusal's result is "empty list, width 0"
+abbrev pub refusal : Planning → Planned
+refusal answer = record { answer = answer; plan = planOf 0 [] }
+
+abbrev pub done : ℕ → List Op → Planned
+done start ops = record { answer = Done; plan = planOf start ops }
+
+-- 2: "a coordinate or `g` outside its range, on either side"
+abbrev pub outOfRange : EnumColourEncoding → EnumColourEncoding → Bool
+outOfRange source target = not (inRange source) || not (inRange target)
+
+-- 3: "the source is Unknown or the target is Xyb or Unknown"
+abbrev pub unsupported : EnumColourEncoding → EnumColourEncoding → Bool
+unsupported source target =
+    sameSpace (source .«colour_space») S.Unknown
+    || (sameSpace (target .«colour_space») S.Xyb || sameSpace (target .«colour_space») S.Unknown)
+
+-- "Equivalent sides give an empty list, start width 1 for a Grey source, else 3. [..] A plan is merged last."
+abbrev pub planned : EnumColourEncoding → EnumColourEncoding → Settings → Planned
+planned source target settings =
+    if outOfRange source target then refusal OutOfRange
+    else if equivalent source target then done (channelsOf source) []
+    else if unsupported source target then refusal Unsupported
+    else done (channelsOf source) (mergeOps (stageOps source target settings))
+
+abbrev pub plannedOf : ColourEncoding → ColourEncoding → Settings → Planned
+plannedOf E.IccProfile target settings = refusal Icc
+plannedOf (E.Enum source) E.IccProfile settings = refusal Icc
+plannedOf (E.Enum source) (E.Enum target) settings = planned source target settings

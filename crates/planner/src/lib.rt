@@ -1,0 +1,99 @@
+// Planning: from two encodings and the settings to a list, or a refusal.
+ghost use mathlib.Core.Path.{_≡_};
+ghost use Rattle.op.specs.Lists.{planOf};
+ghost use Rattle.encoding.specs.Encodings.{channelsOf};
+ghost use Rattle.stages.specs.Stages.{stageOps};
+ghost use Rattle.planner.specs.Planning.{outOfRange, unsupported, refusal, planned, plannedOf};
+use encoding::ColourEncoding;
+use encoding::ColourSpace;
+use encoding::EnumColourEncoding;
+use encoding::Settings;
+use op::Plan;
+
+pub enum Planning {
+    Done,
+    // Refusal 1: either side is ICC.
+    Icc,
+    // Refusal 2: a coordinate or `g` is outside its range.
+    OutOfRange,
+    // Refusal 3: the source is Unknown, or the target is Xyb or Unknown.
+    Unsupported,
+}
+
+// A refused plan is the empty list with width 0.
+pub struct Planned {
+    pub answer: Planning,
+    pub plan: Plan,
+}
+
+// The stages, one after the other.
+fn unmerged(source: EnumColourEncoding, target: EnumColourEncoding, settings: Settings) -> Plan
+    ensures { λ r. ⌜ r ≡ planOf (channelsOf source) (stageOps source target settings) ⌝ }
+{
+    let current = stages::decoded(source);
+    let reached = stages::converted(current, target);
+    let empty = op::empty(encoding::channels(source));
+    let linear = stages::decode(empty, source, settings);
+    let converted = stages::convert(linear, current, target);
+    let mapped = stages::tone_map(converted, reached, target, settings);
+    let hlg = stages::pq_to_hlg(mapped, reached, target, settings);
+    stages::target_curve(hlg, reached, target, settings)
+}
+
+fn is_out_of_range(source: EnumColourEncoding, target: EnumColourEncoding) -> bool
+    ensures { λ r. ⌜ r ≡ outOfRange source target ⌝ }
+{
+    !encoding::in_range(source) | !encoding::in_range(target)
+}
+
+fn is_unsupported(source: EnumColourEncoding, target: EnumColourEncoding) -> bool
+    ensures { λ r. ⌜ r ≡ unsupported source target ⌝ }
+{
+    let from = source.colour_space;
+    let to = target.colour_space;
+    encoding::same_colour_space(from, ColourSpace::Unknown)
+        | (encoding::same_colour_space(to, ColourSpace::Xyb)
+            | encoding::same_colour_space(to, ColourSpace::Unknown))
+}
+
+fn refused(answer: Planning) -> Planned
+    ensures { λ r. ⌜ r ≡ refusal answer ⌝ }
+{
+    let plan = op::empty(0);
+    Planned { answer, plan }
+}
+
+fn plan_enum(source: EnumColourEncoding, target: EnumColourEncoding, settings: Settings) -> Planned
+    ensures { λ r. ⌜ r ≡ planned source target settings ⌝ }
+{
+    if is_out_of_range(source, target) {
+        return refused(Planning::OutOfRange);
+    }
+    if encoding::is_equivalent(source, target) {
+        let plan = op::empty(encoding::channels(source));
+        return Planned {
+            answer: Planning::Done,
+            plan,
+        };
+    }
+    if is_unsupported(source, target) {
+        return refused(Planning::Unsupported);
+    }
+    let plan = merge::merge(unmerged(source, target, settings));
+    Planned {
+        answer: Planning::Done,
+        plan,
+    }
+}
+
+pub fn plan(source: ColourEncoding, target: ColourEncoding, settings: Settings) -> Planned
+    ensures { λ r. ⌜ r ≡ plannedOf source target settings ⌝ }
+{
+    match source {
+        ColourEncoding::IccProfile => refused(Planning::Icc),
+        ColourEncoding::Enum(from) => match target {
+            ColourEncoding::IccProfile => refused(Planning::Icc),
+            ColourEncoding::Enum(to) => plan_enum(from, to, settings),
+        },
+    }
+}
