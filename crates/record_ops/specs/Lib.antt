@@ -1,0 +1,3 @@
+-- Ops and lists of ops in a record.
+pub mod Ops
+pub mod Lists

@@ -1,0 +1,4 @@
+-- What several words of a record stand for.
+pub mod Words
+pub mod Samples
+pub mod Colours
