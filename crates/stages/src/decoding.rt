@@ -4,7 +4,6 @@ ghost use Rattle.op.specs.Lists.{appended};
 ghost use Rattle.stages.specs.Stages.{fromXyb, inverseCurve, decodeOps, decoded};
 use crate::params::hdr_params;
 use crate::params::luminances_of;
-use crate::params::own_luminances;
 use ciexyz::Primaries;
 use ciexyz::WhitePoint;
 use encoding::ColourSpace;
@@ -50,10 +49,11 @@ pub fn decode(out: Plan, source: EnumColourEncoding, settings: Settings) -> Plan
 {
     let colour_space = source.colour_space;
     let white_point = source.white_point;
+    let primaries = source.primaries;
     let tf = source.tf;
     match colour_space {
         ColourSpace::Xyb => from_xyb(out, settings),
-        ColourSpace::Rgb => inverse_curve(out, tf, own_luminances(source), settings),
+        ColourSpace::Rgb => inverse_curve(out, tf, luminances_of(primaries, white_point), settings),
         // primaries don't matter for grayscale
         ColourSpace::Grey => inverse_curve(
             out,

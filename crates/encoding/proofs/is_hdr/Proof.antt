@@ -11,7 +11,7 @@ same-curve-requires-2 : tie.Need-same-curve-requires-2
 same-curve-requires-2 c κs = search needs
 
 returns : tie.Need-returns
-returns c = cc
+returns c = rw (← c .before .same-curve .ensures, ← c .same-curve2 .ensures)
 
 pub is-hdr-spec : {M : Type 1} → statement M
 is-hdr-spec = tie.close (tie.spec same-curve-requires same-curve-requires-2 returns)

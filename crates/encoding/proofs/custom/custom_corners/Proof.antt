@@ -26,7 +26,7 @@ returns-3 : tie.Need-returns-3
 returns-3 c = rw (c .enum-told3 .given .1)
 
 returns-4 : tie.Need-returns-4
-returns-4 c = cc
+returns-4 c = rw (c .before .p .given .1)
 
 pub custom-corners-spec : {M : Type 1} → statement M
 custom-corners-spec =

@@ -11,7 +11,7 @@ space-number-requires-2 : tie.Need-space-number-requires-2
 space-number-requires-2 c κs = search needs
 
 returns : tie.Need-returns
-returns c = cc
+returns c = rw (← c .before .space-number .ensures, ← c .space-number2 .ensures)
 
 pub same-colour-space-spec : {M : Type 1} → statement M
 same-colour-space-spec = tie.close (tie.spec space-number-requires space-number-requires-2 returns)

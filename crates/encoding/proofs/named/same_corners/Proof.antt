@@ -14,7 +14,7 @@ same-point-requires-3 : tie.Need-same-point-requires-3
 same-point-requires-3 c κs = search needs
 
 returns : tie.Need-returns
-returns c = cc
+returns c = rw (← c .before .before .same-point .ensures, ← c .before .same-point2 .ensures, ← c .same-point3 .ensures)
 
 pub same-corners-spec : {M : Type 1} → statement M
 same-corners-spec =

@@ -11,7 +11,7 @@ intent-number-requires-2 : tie.Need-intent-number-requires-2
 intent-number-requires-2 c κs = search needs
 
 returns : tie.Need-returns
-returns c = cc
+returns c = rw (← c .before .intent-number .ensures, ← c .intent-number2 .ensures)
 
 pub same-intent-spec : {M : Type 1} → statement M
 same-intent-spec = tie.close (tie.spec intent-number-requires intent-number-requires-2 returns)

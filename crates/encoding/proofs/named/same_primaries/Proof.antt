@@ -20,7 +20,7 @@ same-corners-requires : tie.Need-same-corners-requires
 same-corners-requires c κs = search needs
 
 returns : tie.Need-returns
-returns c = cc
+returns c = rw (← c .before .before .before .before .primaries-number .ensures, ← c .before .before .before .primaries-number2 .ensures, ← c .before .before .custom-corners .ensures, ← c .before .custom-corners2 .ensures, ← c .same-corners .ensures)
 
 pub same-primaries-spec : {M : Type 1} → statement M
 same-primaries-spec =

@@ -20,7 +20,7 @@ same-primaries-requires : tie.Need-same-primaries-requires
 same-primaries-requires c κs = search needs
 
 returns : tie.Need-returns
-returns c = cc
+returns c = rw (← c .before .before .before .before .same-intent .ensures, ← c .before .before .before .same-white-point .ensures, ← c .before .before .same-curve .ensures, ← c .before .same-colour-space .ensures, ← c .same-primaries .ensures)
 
 pub same-rest-spec : {M : Type 1} → statement M
 same-rest-spec =

@@ -20,7 +20,7 @@ same-point-requires : tie.Need-same-point-requires
 same-point-requires c κs = search needs
 
 returns : tie.Need-returns
-returns c = cc
+returns c = rw (← c .before .before .before .before .white-number .ensures, ← c .before .before .before .white-number2 .ensures, ← c .before .before .custom-white .ensures, ← c .before .custom-white2 .ensures, ← c .same-point .ensures)
 
 pub same-white-point-spec : {M : Type 1} → statement M
 same-white-point-spec =

@@ -14,7 +14,7 @@ point-in-range-requires-3 : tie.Need-point-in-range-requires-3
 point-in-range-requires-3 c κs = search needs
 
 returns : tie.Need-returns
-returns c = cc
+returns c = rw (← c .before .before .point-in-range .ensures, ← c .before .point-in-range2 .ensures, ← c .point-in-range3 .ensures)
 
 pub corners-in-range-spec : {M : Type 1} → statement M
 corners-in-range-spec =

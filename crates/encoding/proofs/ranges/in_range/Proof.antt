@@ -20,7 +20,7 @@ gamma-in-range-requires : tie.Need-gamma-in-range-requires
 gamma-in-range-requires c κs = search needs
 
 returns : tie.Need-returns
-returns c = cc
+returns c = rw (← c .before .before .before .before .custom-white .ensures, ← c .before .before .before .point-in-range .ensures, ← c .before .before .custom-corners .ensures, ← c .before .corners-in-range .ensures, ← c .gamma-in-range .ensures)
 
 pub in-range-spec : {M : Type 1} → statement M
 in-range-spec =

@@ -13,8 +13,8 @@ from-xyb-requires c κs = search needs
 enum-told-2 : tie.Need-enum-told-2
 enum-told-2 c = search needs
 
-own-luminances-requires : tie.Need-own-luminances-requires
-own-luminances-requires c κs = search needs
+luminances-of-requires : tie.Need-luminances-of-requires
+luminances-of-requires c κs = search needs
 
 inverse-curve-requires : tie.Need-inverse-curve-requires
 inverse-curve-requires c κs = search needs
@@ -22,8 +22,8 @@ inverse-curve-requires c κs = search needs
 enum-told-3 : tie.Need-enum-told-3
 enum-told-3 c = search needs
 
-luminances-of-requires : tie.Need-luminances-of-requires
-luminances-of-requires c κs = search needs
+luminances-of-requires-2 : tie.Need-luminances-of-requires-2
+luminances-of-requires-2 c κs = search needs
 
 inverse-curve-requires-2 : tie.Need-inverse-curve-requires-2
 inverse-curve-requires-2 c κs = search needs
@@ -35,10 +35,10 @@ returns : tie.Need-returns
 returns c = rw (c .before .enum-told .given .1) (c .from-xyb .ensures)
 
 returns-2 : tie.Need-returns-2
-returns-2 c = rw (c .before .before .enum-told2 .given .1, ← c .before .own-luminances .ensures) (c .inverse-curve .ensures)
+returns-2 c = rw (c .before .before .enum-told2 .given .1, ← c .before .luminances-of .ensures) (c .inverse-curve .ensures)
 
 returns-3 : tie.Need-returns-3
-returns-3 c = rw (c .before .before .enum-told3 .given .1, ← c .before .luminances-of .ensures) (c .inverse-curve2 .ensures)
+returns-3 c = rw (c .before .before .enum-told3 .given .1, ← c .before .luminances-of2 .ensures) (c .inverse-curve2 .ensures)
 
 returns-4 : tie.Need-returns-4
 returns-4 c = rw (c .enum-told4 .given .1)
@@ -50,10 +50,10 @@ decode-spec =
     enum-told
     from-xyb-requires
     enum-told-2
-    own-luminances-requires
+    luminances-of-requires
     inverse-curve-requires
     enum-told-3
-    luminances-of-requires
+    luminances-of-requires-2
     inverse-curve-requires-2
     enum-told-4
     returns

@@ -1,0 +1,2 @@
+-- The single claim on the starred cases.
+pub mod Readings

@@ -1,0 +1,2 @@
+-- 01's starred cases.
+pub mod Rows
