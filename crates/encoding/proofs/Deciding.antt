@@ -1,4 +1,4 @@
--- The tests of Same decide equality.
+-- The tests of Named decide equality.
 -- A value is read back from its number and its points, so that those decide it.
 use Prim.Native.Nat.{ℕ, zero, suc}
 use mathlib.Core.Path.{_≡_, refl, ap, sym, _∙_}
@@ -6,7 +6,7 @@ use mathlib.Core.Bool.{Bool, true, false, _&&_, and-eq-true-iff, true≢false}
 use lib.Dec.{eqb}
 use lib.IntN.{ℤ}
 use lib.Ieee.{fin}
-use borrow.Author.Tests.{eqb-true, eq-eqb, ne-eqb}
+use borrow.Author.Tests.{eq-eqb, ne-eqb}
 use mir.Syntax.{Width}
 use mir.Val.{SFits, ofZ, toZ}
 use mir.Facts.{toZ-ofZ}
@@ -18,7 +18,7 @@ use Rattle.ciexyz.specs.declared.Primaries.the-variants as P
 use Rattle.same.specs.Same.{sameWhole}
 use Rattle.same.proofs.Deciding.{Decides, exactly, both, numbers, floats}
 use Rattle.encoding.specs.Custom.{corners, customWhite, customCorners}
-use Rattle.encoding.specs.Same.{spaceNumber, sameSpace, intentNumber, sameIntent, samePoint, whiteNumber, sameWhite, sameCorners, primariesNumber, samePrimaries}
+use Rattle.encoding.specs.Named.{spaceNumber, sameSpace, intentNumber, sameIntent, samePoint, whiteNumber, sameWhite, sameCorners, primariesNumber, samePrimaries}
 use Rattle.encoding.specs.declared.ColourSpace.{ColourSpace}
 use Rattle.encoding.specs.declared.ColourSpace.the-variants as S
 use Rattle.encoding.specs.declared.RenderingIntent.{RenderingIntent}
@@ -36,6 +36,7 @@ pairs {s = s} {t} d e = record {
   itself = λ x. both (d .itself (x .0)) (e .itself (x .1));
 }
 
+-- a whole number, as the exponent of a float
 wholes : Decides sameWhole
 wholes = record { equal = λ m n e. inside m n (floats .equal (fin true 0 m) (fin true 0 n) e); itself = λ n. floats .itself (fin true 0 n) }
   where

@@ -1,4 +1,4 @@
--- The tests of Same hold of two values exactly where these are equal: "compared as named values and not as floats".
+-- The tests of Named hold of two values exactly where these are equal: "compared as named values and not as floats".
 -- Each test decides equality (Deciding).
 use mathlib.Core.Path.{_≡_}
 use mathlib.Core.Bool.{true}
@@ -6,7 +6,7 @@ use mathlib.Core.Logic.{_↔_}
 use Rattle.ciexyz.specs.declared.WhitePoint.{WhitePoint}
 use Rattle.ciexyz.specs.declared.Primaries.{Primaries}
 use Rattle.same.proofs.Deciding.{exactly}
-use Rattle.encoding.specs.Same.{sameSpace, sameIntent, sameWhite, samePrimaries}
+use Rattle.encoding.specs.Named.{sameSpace, sameIntent, sameWhite, samePrimaries}
 use Rattle.encoding.specs.declared.ColourSpace.{ColourSpace}
 use Rattle.encoding.specs.declared.RenderingIntent.{RenderingIntent}
 use Rattle.encoding.proofs.Deciding.{spaces, intents, white-points, all-primaries}

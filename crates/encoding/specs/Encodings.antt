@@ -4,7 +4,7 @@ use mathlib.Core.Bool.{Bool, _||_}
 use Rattle.notation.specs.Choice.{if_then_else_}
 use Rattle.same.specs.Same.{sameCurve}
 use Rattle.op.specs.declared.Curve.the-variants as C
-use Rattle.encoding.specs.Same.{sameSpace}
+use Rattle.encoding.specs.Named.{sameSpace}
 use Rattle.encoding.specs.declared.ColourSpace.the-variants as S
 use Rattle.encoding.specs.declared.EnumColourEncoding.{EnumColourEncoding}
 

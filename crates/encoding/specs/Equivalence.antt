@@ -3,7 +3,7 @@ use mathlib.Core.Path.{_≡_}
 use mathlib.Core.Bool.{Bool, _&&_, _||_}
 use mathlib.Core.Logic.{_⊎_}
 use Rattle.same.specs.Same.{sameCurve}
-use Rattle.encoding.specs.Same.{sameSpace, sameIntent, sameWhite, samePrimaries}
+use Rattle.encoding.specs.Named.{sameSpace, sameIntent, sameWhite, samePrimaries}
 use Rattle.encoding.specs.declared.ColourSpace.the-variants as S
 use Rattle.encoding.specs.declared.EnumColourEncoding.{EnumColourEncoding}
 

@@ -4,8 +4,8 @@ ghost use Rattle.encoding.specs.Encodings.{channelsOf, isHdr};
 
 mod custom; // custom.rt: the points of custom white points and primaries
 mod icc; // icc.rt: the channel count of a profile's bytes
-mod ranges; // ranges.rt: whether every coordinate and `g` is in its range
 mod named; // named.rt: comparison as named values, and equivalence
+mod ranges; // ranges.rt: whether every coordinate and `g` is in its range
 
 use ciexyz::Mat3;
 use ciexyz::Primaries;

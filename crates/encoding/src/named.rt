@@ -1,6 +1,6 @@
 // Encodings compared as named values and not as floats, and `is_equivalent` of src/convert.rs, enum case.
 ghost use mathlib.Core.Path.{_≡_};
-ghost use Rattle.encoding.specs.Same.{spaceNumber, intentNumber, whiteNumber, primariesNumber, samePoint, sameCorners, sameSpace, sameIntent, sameWhite, samePrimaries};
+ghost use Rattle.encoding.specs.Named.{spaceNumber, intentNumber, whiteNumber, primariesNumber, samePoint, sameCorners, sameSpace, sameIntent, sameWhite, samePrimaries};
 ghost use Rattle.encoding.specs.Equivalence.{sameRest, equivalent};
 use crate::ColourSpace;
 use crate::EnumColourEncoding;

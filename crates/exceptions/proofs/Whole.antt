@@ -1,10 +1,10 @@
 -- The verdict on the stages one after the other, and on the plan that is merged from them.
 -- Each stage hands on the width of its current encoding, or fails by its test (Verdicts); merging keeps the verdict.
-use Prim.Native.Nat.{ℕ, _≤_}
+use Prim.Native.Nat.{_≤_}
 use mathlib.Core.Path.{_≡_, refl, ap, sym, _∙_}
-use mathlib.Core.Bool.{Bool, true, false, _&&_, _||_, not, and-false, and-true, and-comm, or-false}
+use mathlib.Core.Bool.{Bool, true, false, _&&_, _||_, not, and-false, and-comm, or-false}
 use mathlib.Core.List.{List, [], _++_}
-use mathlib.Core.Option.{Option, some}
+use mathlib.Core.Option.{some}
 use native.Mathlib.Omega.{arith}
 use lib.ListN.{length}
 use Rattle.notation.specs.F32.{bits}
@@ -25,7 +25,7 @@ use Rattle.merge.specs.Merge.{mergeOps, mergeOf}
 use Rattle.merge.proofs.Keeps.{merge-keeps}
 use Rattle.merge.proofs.Merging.{no-longer}
 use Rattle.encoding.specs.Encodings.{channelsOf}
-use Rattle.encoding.specs.Same.{sameSpace, sameIntent, sameWhite, samePrimaries}
+use Rattle.encoding.specs.Named.{sameSpace, sameIntent, sameWhite, samePrimaries}
 use Rattle.encoding.specs.Equivalence.{equivalent, Equivalent, both-xyb, alike}
 use Rattle.encoding.specs.declared.ColourSpace.{ColourSpace}
 use Rattle.encoding.specs.declared.ColourSpace.the-variants as S
@@ -35,7 +35,7 @@ use Rattle.encoding.specs.declared.Settings.{Settings}
 use Rattle.encoding.proofs.SameValues.{same-space-exactly}
 use Rattle.encoding.proofs.Equivalence.{equivalent-exactly}
 use Rattle.encoding.proofs.Tests.{fails-exactly}
-use Rattle.stages.specs.Stages.{luminancesOf, ownLuminances, hdrParams, decodeFrom, decodeOps, decoded, differs, convertOps, converted, isBright, toneMapOps, isPqToHlg, nearThousand, pqToHlgOps, curveIntensity, curveOps, lastOps, stageOps}
+use Rattle.stages.specs.Stages.{luminancesOf, ownLuminances, hdrParams, decodeFrom, decodeOps, decoded, differs, convertOps, converted, isToneMapped, toneMapOps, isPqToHlg, nearThousand, pqToHlgOps, curveIntensity, curveOps, lastOps, stageOps}
 use Rattle.stages.proofs.Length.{at-most-ten}
 use Rattle.planner.specs.Planning.{numberOf}
 use Rattle.planner.specs.declared.Planned.{Planned}
@@ -124,7 +124,7 @@ module _ (e target : EnumColourEncoding) (settings : Settings) where
       tones : outcome (channelsOf e) (toneMapOps e target settings) ≡ some (channelsOf e)
       tones =
           tone-verdict (hdrParams (ownLuminances e) (settings .«intensity_target») settings) (bits 0x437f_0000) (bits 0x3e99_999a) (settings .«detect_peak») (ownLuminances e)
-          (isBright target settings) (isGrey e) (sameIntent (e .«rendering_intent») I.Perceptual)
+          (isToneMapped target settings) (isGrey e) (sameIntent (e .«rendering_intent») I.Perceptual)
 
       hlgs : outcome (channelsOf e) (pqToHlgOps e target settings) ≡ unless ootf-fails (some (channelsOf e))
       hlgs =

@@ -9,7 +9,7 @@ use Rattle.notation.specs.Choice.{if_then_else_}
 use Rattle.same.specs.Same.{sameCurve}
 use Rattle.op.specs.declared.Curve.the-variants as C
 use Rattle.width.specs.Answer.{Answer}
-use Rattle.encoding.specs.Same.{sameSpace, sameIntent, sameWhite}
+use Rattle.encoding.specs.Named.{sameSpace, sameIntent, sameWhite}
 use Rattle.encoding.specs.declared.ColourSpace.the-variants as S
 use Rattle.encoding.specs.declared.RenderingIntent.the-variants as I
 use Rattle.encoding.specs.declared.EnumColourEncoding.{EnumColourEncoding}

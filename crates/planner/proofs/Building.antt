@@ -15,7 +15,7 @@ use Rattle.op.proofs.Building.{appended-append, appends, ops-of}
 use Rattle.op.proofs.Formed.{formed-exactly}
 use Rattle.merge.specs.Merge.{mergeOps, mergeOf}
 use Rattle.encoding.specs.Encodings.{channelsOf}
-use Rattle.encoding.specs.Same.{sameSpace}
+use Rattle.encoding.specs.Named.{sameSpace}
 use Rattle.encoding.specs.declared.ColourSpace.the-variants as S
 use Rattle.encoding.specs.declared.EnumColourEncoding.{EnumColourEncoding}
 use Rattle.encoding.specs.declared.Settings.{Settings}

@@ -12,7 +12,7 @@ use Rattle.merge.proofs.Settled.{no-two-matrices}
 use Rattle.encoding.specs.declared.ColourEncoding.{ColourEncoding}
 use Rattle.encoding.specs.declared.Settings.{Settings}
 use Rattle.planner.specs.Planning.{plannedOf}
-use Rattle.planner.proofs.Sorting.{Told, told}
+use Rattle.planner.proofs.Sorting.{told}
 
 pub none-beside-another : (source target : ColourEncoding) (settings : Settings) (xs ys : List Op) (m n : Mat3) → ¬ (opsOf (plannedOf source target settings .plan) ≡ xs ++ (O.Matrix m ∷ O.Matrix n ∷ ys))
 none-beside-another source target settings xs ys m n e =

@@ -9,7 +9,7 @@ use Rattle.encoding.specs.declared.Settings.{Settings}
 use Rattle.planner.specs.Planning.{numberOf, plannedOf}
 use Rattle.planner.specs.Refusals.{IsIcc, IsOutside, IsUnsupported}
 use Rattle.planner.specs.declared.Planning.the-variants.{Done, Icc, OutOfRange, Unsupported}
-use Rattle.planner.proofs.Sorting.{Told, told, exactly}
+use Rattle.planner.proofs.Sorting.{told, exactly}
 
 module _ (source target : ColourEncoding) (settings : Settings) where
   -- 1 exactly when either side is ICC

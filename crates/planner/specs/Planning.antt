@@ -7,7 +7,7 @@ use Rattle.op.specs.Lists.{planOf}
 use Rattle.op.specs.declared.Op.{Op}
 use Rattle.merge.specs.Merge.{mergeOps}
 use Rattle.encoding.specs.Encodings.{channelsOf}
-use Rattle.encoding.specs.Same.{sameSpace}
+use Rattle.encoding.specs.Named.{sameSpace}
 use Rattle.encoding.specs.Equivalence.{equivalent}
 use Rattle.encoding.specs.Ranges.{inRange}
 use Rattle.encoding.specs.declared.ColourSpace.the-variants as S

@@ -12,13 +12,13 @@ use Rattle.notation.specs.Choice.{if_then_else_}
 use Rattle.same.specs.Same.{sameCurve}
 use Rattle.op.specs.declared.Curve.the-variants as C
 use Rattle.op.specs.declared.Op.{Op}
-use Rattle.encoding.specs.Same.{sameSpace, sameIntent}
+use Rattle.encoding.specs.Named.{sameSpace, sameIntent}
 use Rattle.encoding.specs.declared.ColourSpace.{ColourSpace}
 use Rattle.encoding.specs.declared.ColourSpace.the-variants as S
 use Rattle.encoding.specs.declared.RenderingIntent.the-variants as I
 use Rattle.encoding.specs.declared.EnumColourEncoding.{EnumColourEncoding}
 use Rattle.encoding.specs.declared.Settings.{Settings}
-use Rattle.stages.specs.Stages.{decodeFrom, decodeOps, decoded, differs, adaptOps, fromXyzOp, convertOps, converted, gamutMapOps, isBright, toneMapOps, isPqToHlg, nearThousand, inverseOotfOps, pqToHlgOps, curveOps, lastOps, stageOps}
+use Rattle.stages.specs.Stages.{decodeFrom, decodeOps, decoded, differs, adaptOps, fromXyzOp, convertOps, converted, gamutMapOps, isToneMapped, toneMapOps, isPqToHlg, nearThousand, inverseOotfOps, pqToHlgOps, curveOps, lastOps, stageOps}
 
 pub at-most-ten : (source target : EnumColourEncoding) (settings : Settings) → length (stageOps source target settings) ≤ 10
 at-most-ten source target settings =
@@ -57,7 +57,7 @@ at-most-ten source target settings =
     gamut-map e f = choice (not (sameSpace (e .«colour_space») S.Grey) && sameIntent (e .«rendering_intent») I.Perceptual) _ _ 1 (omega arith) (omega arith)
 
     tone-map : (e : EnumColourEncoding) → length (toneMapOps e target settings) ≤ 2
-    tone-map e = choice (isBright target settings) _ _ 2 (omega (arith, gamut-map e (bits 0x3e99_999a))) (omega arith)
+    tone-map e = choice (isToneMapped target settings) _ _ 2 (omega (arith, gamut-map e (bits 0x3e99_999a))) (omega arith)
 
     inverse-ootf : (e : EnumColourEncoding) → length (inverseOotfOps e settings) ≤ 2
     inverse-ootf e = choice (nearThousand (settings .«intensity_target»)) _ _ 2 (omega arith) (omega arith)
@@ -76,7 +76,7 @@ at-most-ten source target settings =
       where
         by : (t : Bool) → sameCurve (target .tf) C.Hlg ≡ t → length (toneMapOps e target settings) + length (pqToHlgOps e target settings) ≤ 3
         by true h =
-            let n : isBright target settings ≡ false = rw (h, or-true (sameCurve (target .tf) C.Pq)) (and-false (lt (bits 0x437f_0000) (settings .«intensity_target»))) in
+            let n : isToneMapped target settings ≡ false = rw (h, or-true (sameCurve (target .tf) C.Pq)) (and-false (lt (bits 0x437f_0000) (settings .«intensity_target»))) in
             rw n (omega (arith, pq-to-hlg e))
         by false h =
             let n : isPqToHlg target settings ≡ false = rw h (and-false (settings .«from_pq»)) in

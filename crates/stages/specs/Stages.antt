@@ -18,9 +18,10 @@ use Rattle.op.specs.declared.HdrParams.{HdrParams}
 use Rattle.op.specs.declared.Op.{Op}
 use Rattle.op.specs.declared.Op.the-variants as O
 use Rattle.encoding.specs.Encodings.{isHdr}
-use Rattle.encoding.specs.Same.{sameSpace, sameIntent, sameWhite, samePrimaries}
+use Rattle.encoding.specs.Named.{sameSpace, sameIntent, sameWhite, samePrimaries}
 use Rattle.encoding.specs.declared.ColourSpace.{ColourSpace}
 use Rattle.encoding.specs.declared.ColourSpace.the-variants as S
+use Rattle.encoding.specs.declared.RenderingIntent.{RenderingIntent}
 use Rattle.encoding.specs.declared.RenderingIntent.the-variants as I
 use Rattle.encoding.specs.declared.EnumColourEncoding.{EnumColourEncoding}
 use Rattle.encoding.specs.declared.Settings.{Settings}
@@ -57,12 +58,15 @@ decodeFrom S.Unknown source settings = []
 abbrev pub decodeOps : EnumColourEncoding → Settings → List Op
 decodeOps source settings = decodeFrom (source .«colour_space») source settings
 
--- the current encoding, after decoding
+-- the current encoding from here on is Linear, and its intent is the source's
+abbrev pub linear : ColourSpace → WhitePoint → Primaries → RenderingIntent → EnumColourEncoding
+linear s w p i = record { «colour_space» = s; «white_point» = w; primaries = p; tf = C.Linear; «rendering_intent» = i }
+
 abbrev pub decoded : EnumColourEncoding → EnumColourEncoding
 decoded source =
     if sameSpace (source .«colour_space») S.Xyb
-    then record { «colour_space» = S.Rgb; «white_point» = W.D65; primaries = P.Srgb; tf = C.Linear; «rendering_intent» = source .«rendering_intent» }
-    else record { «colour_space» = source .«colour_space»; «white_point» = source .«white_point»; primaries = source .primaries; tf = C.Linear; «rendering_intent» = source .«rendering_intent» }
+    then linear S.Rgb W.D65 P.Srgb (source .«rendering_intent»)
+    else linear (source .«colour_space») (source .«white_point») (source .primaries) (source .«rendering_intent»)
 
 -- ---- conversion: "if colour space, white point, or between Rgb the primaries, differ, compared as named values and not as floats"
 
@@ -107,7 +111,7 @@ convertOps current target =
 abbrev pub converted : EnumColourEncoding → EnumColourEncoding → EnumColourEncoding
 converted current target =
     if differs current target
-    then record { «colour_space» = target .«colour_space»; «white_point» = target .«white_point»; primaries = target .primaries; tf = current .tf; «rendering_intent» = current .«rendering_intent» }
+    then linear (target .«colour_space») (target .«white_point») (target .primaries) (current .«rendering_intent»)
     else current
 
 -- ---- tone mapping: "only if `intensity_target` > 255.0 and the target is not HDR"
@@ -126,12 +130,12 @@ gamutMapOps current factor =
     then O.GamutMap (ownLuminances current) factor ∷ []
     else []
 
-abbrev pub isBright : EnumColourEncoding → Settings → Bool
-isBright target settings = lt (bits 0x437f_0000) (settings .«intensity_target») && not (isHdr target)  -- 255.0
+abbrev pub isToneMapped : EnumColourEncoding → Settings → Bool
+isToneMapped target settings = lt (bits 0x437f_0000) (settings .«intensity_target») && not (isHdr target)  -- 255.0
 
 abbrev pub toneMapOps : EnumColourEncoding → EnumColourEncoding → Settings → List Op
 toneMapOps current target settings =
-    if isBright target settings
+    if isToneMapped target settings
     then toneMapOp current (hdrParams (ownLuminances current) (settings .«intensity_target») settings) (bits 0x437f_0000) (settings .«detect_peak»)  -- 255.0
     ∷ gamutMapOps current (bits 0x3e99_999a)  -- 0.3
     else []

@@ -6,6 +6,7 @@ use crate::params::own_luminances;
 use encoding::ColourSpace;
 use encoding::EnumColourEncoding;
 use encoding::RenderingIntent;
+use op::Curve;
 use op::Op;
 use op::Plan;
 
@@ -106,13 +107,12 @@ pub fn converted(current: EnumColourEncoding, target: EnumColourEncoding) -> Enu
     let colour_space = target.colour_space;
     let white_point = target.white_point;
     let primaries = target.primaries;
-    let tf = current.tf;
     let rendering_intent = current.rendering_intent;
     EnumColourEncoding {
         colour_space,
         white_point,
         primaries,
-        tf,
+        tf: Curve::Linear,
         rendering_intent,
     }
 }

@@ -1,7 +1,7 @@
 // Tone mapping to a target that is not HDR, and the PQ to HLG steps.
 ghost use mathlib.Core.Path.{_≡_};
 ghost use Rattle.op.specs.Lists.{appended};
-ghost use Rattle.stages.specs.Stages.{toneMapOp, gamutMapOps, isBright, toneMapOps, isPqToHlg, nearThousand, inverseOotfOps, pqToHlgOps};
+ghost use Rattle.stages.specs.Stages.{toneMapOp, gamutMapOps, isToneMapped, toneMapOps, isPqToHlg, nearThousand, inverseOotfOps, pqToHlgOps};
 use crate::params::hdr_params;
 use crate::params::own_luminances;
 use encoding::ColourSpace;
@@ -52,9 +52,8 @@ fn gamut_map(out: Plan, current: EnumColourEncoding, factor: f32) -> Plan
     out
 }
 
-// Whether the samples are brighter than the target shows.
-fn is_bright(target: EnumColourEncoding, settings: Settings) -> bool
-    ensures { λ r. ⌜ r ≡ isBright target settings ⌝ }
+fn is_tone_mapped(target: EnumColourEncoding, settings: Settings) -> bool
+    ensures { λ r. ⌜ r ≡ isToneMapped target settings ⌝ }
 {
     (settings.intensity_target > 255.0) & !encoding::is_hdr(target)
 }
@@ -67,7 +66,7 @@ pub fn tone_map(
 ) -> Plan
     ensures { λ r. ⌜ r ≡ appended out (toneMapOps current target settings) ⌝ }
 {
-    if !is_bright(target, settings) {
+    if !is_tone_mapped(target, settings) {
         return out;
     }
     let hdr_params = hdr_params(own_luminances(current), settings.intensity_target, settings);

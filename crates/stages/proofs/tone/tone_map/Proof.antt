@@ -5,11 +5,11 @@ use borrow.Author.Needs.{needs}
 use Rattle.stages.proofs.tone.tone_map.Statement.{statement}
 use Rattle.stages.proofs.tone.tone_map.Tie as tie
 
-is-bright-requires : tie.Need-is-bright-requires
-is-bright-requires c κs = search needs
+is-tone-mapped-requires : tie.Need-is-tone-mapped-requires
+is-tone-mapped-requires c κs = search needs
 
 returns : tie.Need-returns
-returns c = rw (← c .before .is-bright .ensures, not-true (c .before .is-bright .result) (c .if1 .taken))
+returns c = rw (← c .before .is-tone-mapped .ensures, not-true (c .before .is-tone-mapped .result) (c .if1 .taken))
 
 own-luminances-requires : tie.Need-own-luminances-requires
 own-luminances-requires c κs = search needs
@@ -27,13 +27,13 @@ gamut-map-requires : tie.Need-gamut-map-requires
 gamut-map-requires c κs = search needs
 
 returns-2 : tie.Need-returns-2
-returns-2 c = rw (← c .before .before .before .before .before .before .is-bright .ensures, not-false (c .before .before .before .before .before .before .is-bright .result) (c .before .before .before .before .before .if1 .left), c .gamut-map .ensures, c .before .push .ensures, c .before .before .tone-map-op .ensures, c .before .before .before .hdr-params .ensures, c .before .before .before .before .own-luminances .ensures)
+returns-2 c = rw (← c .before .before .before .before .before .before .is-tone-mapped .ensures, not-false (c .before .before .before .before .before .before .is-tone-mapped .result) (c .before .before .before .before .before .if1 .left), c .gamut-map .ensures, c .before .push .ensures, c .before .before .tone-map-op .ensures, c .before .before .before .hdr-params .ensures, c .before .before .before .before .own-luminances .ensures)
 
 pub tone-map-spec : {M : Type 1} → statement M
 tone-map-spec =
     tie.close
     (tie.spec
-    is-bright-requires
+    is-tone-mapped-requires
     returns
     own-luminances-requires
     hdr-params-requires
