@@ -8,7 +8,7 @@ use native.Mathlib.Omega.{arith}
 use borrow.Author.Tests.{lt-ltb, le-ltb}
 use lib.ListN.{length, take, drop, length-drop}
 use Rattle.op.specs.declared.Op.{Op}
-use Rattle.block.proofs.Rows.{at-most}
+use Rattle.notation.proofs.Tables.{at-most}
 use Rattle.block.specs.Fields.{byteAt, payloads, payloadOf, opOf}
 use Rattle.block.specs.Layout.{badField}
 use Rattle.block.specs.Block.{opIn, afterKind, fieldsIn}

@@ -5,7 +5,6 @@ pub mod Follows
 pub mod Enough
 pub mod Determined
 -- their laws, and those of the code
-pub mod Rows
 pub mod Pattern
 pub mod Nans
 pub mod Layouts

@@ -1,20 +1,19 @@
 -- "A kind byte and its fields in f32 unless said": what the fields stand for. (01, Plan block). Definitions only.
 -- s is the payload of an op, the bytes that follow its kind byte.
 use Prim.Native.Nat.{ℕ, _+_, _*_}
-use mathlib.Core.Bool.{Bool, true, false}
+use mathlib.Core.Bool.{Bool}
 use mathlib.Core.List.{List, [], _∷_}
 use lib.Dec.{eqb}
 use lib.ListN.{getD}
 use lib.Ieee.{Float}
 use Rattle.notation.specs.F32.{bits}
-use Rattle.ciexyz.specs.declared.Mat3.{Mat3}
 use Rattle.ciexyz.specs.declared.Vec3.{Vec3}
+use Rattle.ciexyz.specs.Matrix.{byRows}
 use Rattle.op.specs.declared.Luminances.{Luminances}
 use Rattle.op.specs.declared.HdrParams.{HdrParams}
-use Rattle.op.specs.declared.Curve.{Curve}
-use Rattle.op.specs.declared.Curve.the-variants as C
 use Rattle.op.specs.declared.Op.{Op}
 use Rattle.op.specs.declared.Op.the-variants as O
+use Rattle.op.specs.Curves.{curveNumbered}
 
 -- "payload bytes", for the kinds 0 to 9
 abbrev pub payloads : List ℕ
@@ -49,25 +48,14 @@ luminancesAt s at = record { red = floatAt s at; green = floatAt s (at + 4); blu
 unfoldable pub paramsAt : List ℕ → ℕ → HdrParams
 paramsAt s at = record { luminances = luminancesAt s at; «intensity_target» = floatAt s (at + 12); «min_nits» = floatAt s (at + 16) }
 
--- "Matrix, by rows"
-abbrev pub matrixBy : Vec3 → Vec3 → Vec3 → Mat3
-matrixBy a b c = record { m0 = a .v0; m1 = a .v1; m2 = a .v2; m3 = b .v0; m4 = b .v1; m5 = b .v2; m6 = c .v0; m7 = c .v1; m8 = c .v2 }
-
--- "Curves: 0 Gamma, 1 Gamma inverted, 2 Bt709, 3 Unknown, 4 Linear, 5 Srgb, 6 Pq, 7 Dci, 8 Hlg."
-abbrev pub curves : ℕ → List Curve
-curves g = C.Gamma g false ∷ C.Gamma g true ∷ C.Bt709 ∷ C.Unknown ∷ C.Linear ∷ C.Srgb ∷ C.Pq ∷ C.Dci ∷ C.Hlg ∷ []
-
-unfoldable pub curveOf : ℕ → ℕ → Curve
-curveOf n g = getD (curves g) n C.Hlg
-
 -- the rows of the table, from 0 to 9
 abbrev pub opRows : List ℕ → List Op
 opRows s =
     O.XybToMixedLms (vec3At s 0) (floatAt s 12)
     ∷ O.LumaToXyz (record { x = floatAt s 0; y = floatAt s 4 })
     ∷ O.XyzToLuma
-    ∷ O.Matrix (matrixBy (vec3At s 0) (vec3At s 12) (vec3At s 24))
-    ∷ O.TransferFunction (curveOf (byteAt s 0) (u32At s 1)) (paramsAt s 6) (flagAt s 5)
+    ∷ O.Matrix (byRows (vec3At s 0) (vec3At s 12) (vec3At s 24))
+    ∷ O.TransferFunction (curveNumbered (byteAt s 0) (u32At s 1)) (paramsAt s 6) (flagAt s 5)
     ∷ O.HlgInverseOotf (paramsAt s 0)
     ∷ O.ToneMapRec2408 (paramsAt s 0) (floatAt s 20) (flagAt s 24)
     ∷ O.ToneMapLumaRec2408 (paramsAt s 0) (floatAt s 20) (flagAt s 24)

@@ -2,12 +2,12 @@
 ghost use mathlib.Core.Path.{_≡_};
 ghost use Prim.Native.Nat.{_+_, _*_, _≤_};
 ghost use lib.ListN.{length, drop};
-ghost use Rattle.block.specs.Fields.{u16At, u32At, floatAt, vec3At, luminancesAt, paramsAt, matrixBy, curveOf, payloadOf, opOf};
+ghost use Rattle.ciexyz.specs.Matrix.{byRows};
+ghost use Rattle.block.specs.Fields.{u16At, u32At, floatAt, vec3At, luminancesAt, paramsAt, payloadOf, opOf};
 ghost use Rattle.block.specs.Layout.{floats, badCurve, anyBad, badField};
 use ciexyz::Mat3;
 use ciexyz::Vec3;
 use ciexyz::Xy;
-use op::Curve;
 use op::HdrParams;
 use op::Luminances;
 use op::Op;
@@ -84,38 +84,9 @@ fn params_at(s: &[u8], at: usize) -> HdrParams
 
 fn matrix(s: &[u8]) -> Mat3
     requires { ⌜ 36 ≤ length (now s) ⌝ }
-    ensures { λ r. ⌜ r ≡ matrixBy (vec3At (now (s .entry)) 0) (vec3At (now (s .entry)) 12) (vec3At (now (s .entry)) 24) ⌝ }
+    ensures { λ r. ⌜ r ≡ byRows (vec3At (now (s .entry)) 0) (vec3At (now (s .entry)) 12) (vec3At (now (s .entry)) 24) ⌝ }
 {
-    let a = vec3_at(s, 0);
-    let b = vec3_at(s, 12);
-    let c = vec3_at(s, 24);
-    Mat3 {
-        m0: a.v0,
-        m1: a.v1,
-        m2: a.v2,
-        m3: b.v0,
-        m4: b.v1,
-        m5: b.v2,
-        m6: c.v0,
-        m7: c.v1,
-        m8: c.v2,
-    }
-}
-
-fn curve_of(n: u8, g: u32) -> Curve
-    ensures { λ r. ⌜ r ≡ curveOf n g ⌝ }
-{
-    match n {
-        0 => Curve::Gamma { g, inverted: false },
-        1 => Curve::Gamma { g, inverted: true },
-        2 => Curve::Bt709,
-        3 => Curve::Unknown,
-        4 => Curve::Linear,
-        5 => Curve::Srgb,
-        6 => Curve::Pq,
-        7 => Curve::Dci,
-        _ => Curve::Hlg,
-    }
+    ciexyz::mat_by_rows(vec3_at(s, 0), vec3_at(s, 12), vec3_at(s, 24))
 }
 
 // The op of a kind with these fields.
@@ -137,7 +108,7 @@ pub(crate) fn op_of(kind: u8, s: &[u8]) -> Op
         2 => Op::XyzToLuma,
         3 => Op::Matrix(matrix(s)),
         4 => Op::TransferFunction {
-            curve: curve_of(s[0], u32_at(s, 1)),
+            curve: op::curve_numbered(s[0] as u32, u32_at(s, 1)),
             hdr_params: params_at(s, 6),
             inverse: s[5] == 1,
         },

@@ -1,4 +1,3 @@
--- Laws of reading samples and of tables, and what the contracts determine.
+-- Laws of reading samples, and what the contracts determine.
 pub mod Reading
-pub mod Tables
 pub mod Determined

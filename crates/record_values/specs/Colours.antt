@@ -1,6 +1,6 @@
 -- Vectors, matrices, white points, primaries and curves, as the first words of a part of a record say them. Definitions only.
 use Prim.Native.Nat.{ℕ}
-use mathlib.Core.Bool.{Bool, true, false, _&&_, _||_}
+use mathlib.Core.Bool.{Bool, _&&_, _||_}
 use mathlib.Core.List.{List, [], _∷_}
 use lib.Dec.{eqb, leb, ltb}
 use lib.ListN.{getD}
@@ -13,8 +13,9 @@ use Rattle.ciexyz.specs.declared.WhitePoint.{WhitePoint}
 use Rattle.ciexyz.specs.declared.WhitePoint.the-variants as W
 use Rattle.ciexyz.specs.declared.Primaries.{Primaries}
 use Rattle.ciexyz.specs.declared.Primaries.the-variants as P
+use Rattle.ciexyz.specs.Matrix.{byRows}
 use Rattle.op.specs.declared.Curve.{Curve}
-use Rattle.op.specs.declared.Curve.the-variants as C
+use Rattle.op.specs.Curves.{curveNumbered}
 use Rattle.record.specs.Line.{wordOf}
 use Rattle.record.specs.Value.{signedOf}
 use Rattle.record_values.specs.Words.{fromWord, floatAt}
@@ -26,19 +27,6 @@ abbrev pub vecOf : List ℕ → Vec3
 vecOf s = record { v0 = floatAt s 0; v1 = floatAt s 1; v2 = floatAt s 2 }
 
 -- by rows
-abbrev pub byRows : Vec3 → Vec3 → Vec3 → Mat3
-byRows a b c = record {
-  m0 = a .v0;
-  m1 = a .v1;
-  m2 = a .v2;
-  m3 = b .v0;
-  m4 = b .v1;
-  m5 = b .v2;
-  m6 = c .v0;
-  m7 = c .v1;
-  m8 = c .v2;
-}
-
 abbrev pub matOf : List ℕ → Mat3
 matOf s = byRows (vecOf s) (vecOf (fromWord s 3)) (vecOf (fromWord s 6))
 
@@ -82,12 +70,6 @@ isFlag s = leb (wordOf s 0) 1
 -- "Curves have 01's numbers, 0 to 8, and `g` is 0 but for the two Gammas."
 abbrev pub isCurve : List ℕ → Bool
 isCurve s = ltb (wordOf s 0) 2 || (leb (wordOf s 0) 8 && eqb (wordOf s 1) 0)
-
-abbrev pub curvesTo7 : ℕ → List Curve
-curvesTo7 g = C.Gamma g false ∷ C.Gamma g true ∷ C.Bt709 ∷ C.Unknown ∷ C.Linear ∷ C.Srgb ∷ C.Pq ∷ C.Dci ∷ []
-
-abbrev pub curveNumbered : ℕ → ℕ → Curve
-curveNumbered n g = getD (curvesTo7 g) n C.Hlg
 
 abbrev pub curveOf : List ℕ → Curve
 curveOf s = curveNumbered (wordOf s 0) (wordOf s 1)

@@ -33,20 +33,11 @@ pub fn vec_of(words: &[u8]) -> Vec3
 pub fn mat_of(words: &[u8]) -> Mat3
     ensures { λ r. ⌜ r ≡ matOf (now (words .entry)) ⌝ }
 {
-    let a = vec_of(words);
-    let b = vec_of(from_word(words, 3));
-    let c = vec_of(from_word(words, 6));
-    Mat3 {
-        m0: a.v0,
-        m1: a.v1,
-        m2: a.v2,
-        m3: b.v0,
-        m4: b.v1,
-        m5: b.v2,
-        m6: c.v0,
-        m7: c.v1,
-        m8: c.v2,
-    }
+    ciexyz::mat_by_rows(
+        vec_of(words),
+        vec_of(from_word(words, 3)),
+        vec_of(from_word(words, 6)),
+    )
 }
 
 fn point_of(words: &[u8]) -> Millionths
@@ -133,16 +124,5 @@ pub fn is_curve(words: &[u8]) -> bool
 pub fn curve_of(words: &[u8]) -> Curve
     ensures { λ r. ⌜ r ≡ curveOf (now (words .entry)) ⌝ }
 {
-    let g = record::word(words, 1);
-    match record::word(words, 0) {
-        0 => Curve::Gamma { g, inverted: false },
-        1 => Curve::Gamma { g, inverted: true },
-        2 => Curve::Bt709,
-        3 => Curve::Unknown,
-        4 => Curve::Linear,
-        5 => Curve::Srgb,
-        6 => Curve::Pq,
-        7 => Curve::Dci,
-        _ => Curve::Hlg,
-    }
+    op::curve_numbered(record::word(words, 0), record::word(words, 1))
 }

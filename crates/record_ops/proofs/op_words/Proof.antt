@@ -5,7 +5,7 @@ use mathlib.Core.Path.{_≡_, ap, ap₂, sym, _∙_}
 use mathlib.Core.Bool.{Bool, _&&_}
 use lib.ListN.{List·getD-eq-default}
 use borrow.Author.Needs.{needs}
-use Rattle.record_values.proofs.Tables.{past}
+use Rattle.notation.proofs.Tables.{past}
 use Rattle.record_values.specs.Colours.{isFlag}
 use Rattle.record_values.specs.Words.{fromWord}
 use Rattle.record_ops.proofs.Words.{by-kind}

@@ -2,7 +2,7 @@
 -- Each arm is a row of `opRows`, and its fields lie within the payload of its kind.
 use mathlib.Core.Path.{refl}
 use native.Mathlib.Omega.{arith}
-use Rattle.block.proofs.Rows.{last-row, past}
+use Rattle.notation.proofs.Tables.{last-row, past}
 use Rattle.block.specs.Fields.{opRows, opOf}
 use borrow.Author.Needs.{needs}
 use Rattle.block.proofs.fields.op_of.Statement.{statement}
@@ -23,20 +23,23 @@ float-at-requires-3 c κs = omega (arith, rw (c .before .match .keys2) at (c .be
 matrix-requires : tie.Need-matrix-requires
 matrix-requires c κs = omega (arith, rw (c .match .keys4) at (c .before .before .pre))
 
-shared-slice-read-curve-of : tie.Need-shared-slice-read-curve-of
-shared-slice-read-curve-of c = omega (arith, rw (c .before .match .keys5) at (c .before .before .before .pre))
+shared-slice-read-curve-numbered : tie.Need-shared-slice-read-curve-numbered
+shared-slice-read-curve-numbered c = omega (arith, rw (c .before .match .keys5) at (c .before .before .before .pre))
+
+cast-curve-numbered : tie.Need-cast-curve-numbered
+cast-curve-numbered c = omega (arith, c .shared-slice-known2 .given 0)
 
 u32-at-requires : tie.Need-u32-at-requires
 u32-at-requires c κs = omega (arith, rw (c .before .match .keys5) at (c .before .before .before .pre))
 
-curve-of-requires : tie.Need-curve-of-requires
-curve-of-requires c κs = search needs
+curve-numbered-requires : tie.Need-curve-numbered-requires
+curve-numbered-requires c κs = search needs
 
 params-at-requires : tie.Need-params-at-requires
 params-at-requires c κs = omega (arith, rw (c .before .before .before .match .keys5) at (c .before .before .before .before .before .pre))
 
-shared-slice-read-t16 : tie.Need-shared-slice-read-t16
-shared-slice-read-t16 c = omega (arith, rw (c .before .before .before .before .before .match .keys5) at (c .before .before .before .before .before .before .before .pre))
+shared-slice-read-t17 : tie.Need-shared-slice-read-t17
+shared-slice-read-t17 c = omega (arith, rw (c .before .before .before .before .before .match .keys5) at (c .before .before .before .before .before .before .before .pre))
 
 params-at-requires-2 : tie.Need-params-at-requires-2
 params-at-requires-2 c κs = omega (arith, rw (c .match .keys6) at (c .before .before .pre))
@@ -47,8 +50,8 @@ params-at-requires-3 c κs = omega (arith, rw (c .match .keys7) at (c .before .b
 float-at-requires-4 : tie.Need-float-at-requires-4
 float-at-requires-4 c κs = omega (arith, rw (c .before .match .keys7) at (c .before .before .before .pre))
 
-shared-slice-read-t22 : tie.Need-shared-slice-read-t22
-shared-slice-read-t22 c = omega (arith, rw (c .before .before .before .match .keys7) at (c .before .before .before .before .before .pre))
+shared-slice-read-t23 : tie.Need-shared-slice-read-t23
+shared-slice-read-t23 c = omega (arith, rw (c .before .before .before .match .keys7) at (c .before .before .before .before .before .pre))
 
 params-at-requires-4 : tie.Need-params-at-requires-4
 params-at-requires-4 c κs = omega (arith, rw (c .match .keys8) at (c .before .before .pre))
@@ -56,8 +59,8 @@ params-at-requires-4 c κs = omega (arith, rw (c .match .keys8) at (c .before .b
 float-at-requires-5 : tie.Need-float-at-requires-5
 float-at-requires-5 c κs = omega (arith, rw (c .before .match .keys8) at (c .before .before .before .pre))
 
-shared-slice-read-t27 : tie.Need-shared-slice-read-t27
-shared-slice-read-t27 c = omega (arith, rw (c .before .before .before .match .keys8) at (c .before .before .before .before .before .pre))
+shared-slice-read-t28 : tie.Need-shared-slice-read-t28
+shared-slice-read-t28 c = omega (arith, rw (c .before .before .before .match .keys8) at (c .before .before .before .before .before .pre))
 
 luminances-at-requires : tie.Need-luminances-at-requires
 luminances-at-requires c κs = omega (arith, rw (c .match .keys9) at (c .before .before .pre))
@@ -83,7 +86,7 @@ returns-4 c = rw (c .before .match .keys4, c .matrix .ensures)
 
 returns-5 : tie.Need-returns-5
 unfolding opOf
-returns-5 c = rw (c .before .before .before .before .before .match .keys5, c .before .before .curve-of .ensures, c .before .before .before .u32-at .ensures, c .before .params-at .ensures)
+returns-5 c = rw (c .before .before .before .before .before .match .keys5, c .before .before .curve-numbered .ensures, c .before .before .before .u32-at .ensures, c .before .params-at .ensures)
 
 returns-6 : tie.Need-returns-6
 unfolding opOf
@@ -114,18 +117,19 @@ op-of-spec =
     float-at-requires-2
     float-at-requires-3
     matrix-requires
-    shared-slice-read-curve-of
+    shared-slice-read-curve-numbered
+    cast-curve-numbered
     u32-at-requires
-    curve-of-requires
+    curve-numbered-requires
     params-at-requires
-    shared-slice-read-t16
+    shared-slice-read-t17
     params-at-requires-2
     params-at-requires-3
     float-at-requires-4
-    shared-slice-read-t22
+    shared-slice-read-t23
     params-at-requires-4
     float-at-requires-5
-    shared-slice-read-t27
+    shared-slice-read-t28
     luminances-at-requires
     float-at-requires-6
     returns

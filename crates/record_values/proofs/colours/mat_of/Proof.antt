@@ -19,8 +19,11 @@ from-word-requires-2 c κs = search needs
 vec-of-requires-3 : tie.Need-vec-of-requires-3
 vec-of-requires-3 c κs = search needs
 
+mat-by-rows-requires : tie.Need-mat-by-rows-requires
+mat-by-rows-requires c κs = search needs
+
 returns : tie.Need-returns
-returns c = rw (c .before .before .before .before .vec-of .ensures, c .before .before .vec-of2 .ensures, c .vec-of3 .ensures, c .before .before .before .from-word .ensures, c .before .from-word2 .ensures)
+returns c = rw (c .mat-by-rows .ensures, c .before .before .before .before .before .vec-of .ensures, c .before .before .before .vec-of2 .ensures, c .before .vec-of3 .ensures, c .before .before .before .before .from-word .ensures, c .before .before .from-word2 .ensures)
 
 pub mat-of-spec : {M : Type 1} → statement M
 mat-of-spec =
@@ -31,4 +34,5 @@ mat-of-spec =
     vec-of-requires-2
     from-word-requires-2
     vec-of-requires-3
+    mat-by-rows-requires
     returns)

@@ -7,7 +7,7 @@ use borrow.Author.Needs.{needs}
 use Rattle.ciexyz.specs.declared.Primaries.the-variants as P
 use Rattle.ciexyz.specs.declared.Millionths.{Millionths}
 use Rattle.record_values.specs.Colours.{pointOf, namedPrimaries, primariesNumbered}
-use Rattle.record_values.proofs.Tables.{past}
+use Rattle.notation.proofs.Tables.{past}
 use Rattle.record_values.proofs.colours.primaries_of.Statement.{statement}
 use Rattle.record_values.proofs.colours.primaries_of.Tie as tie
 

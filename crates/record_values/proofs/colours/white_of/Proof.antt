@@ -6,7 +6,7 @@ use lib.ListN.{List·getD-eq-default}
 use borrow.Author.Needs.{needs}
 use Rattle.ciexyz.specs.declared.WhitePoint.the-variants as W
 use Rattle.record_values.specs.Colours.{pointOf, namedWhites, whiteNumbered}
-use Rattle.record_values.proofs.Tables.{past}
+use Rattle.notation.proofs.Tables.{past}
 use Rattle.record_values.proofs.colours.white_of.Statement.{statement}
 use Rattle.record_values.proofs.colours.white_of.Tie as tie
 
