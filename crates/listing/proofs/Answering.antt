@@ -1,0 +1,16 @@
+-- The text by the answer's number.
+-- The test for 0 is answered.
+use Prim.Native.Nat.{ℕ}
+use mathlib.Core.Path.{_≡_, sym, _∙_}
+use borrow.Author.Tests.{eq-eqb, ne-eqb}
+use Rattle.width.specs.Check.{checkOf}
+use Rattle.block.specs.Block.{number}
+use Rattle.block.specs.declared.Block.{Block}
+use Rattle.listing.specs.Listing.{refusal, listText, blockText}
+
+module _ (b : Block) {n : ℕ} (e : n ≡ number (b .answer)) where
+  pub done : n ≡ 0 → blockText b ≡ listText (b .plan) (checkOf (b .plan))
+  done h = rw (eq-eqb (number (b .answer)) 0 (sym e ∙ h))
+
+  pub refused : ¬ (n ≡ 0) → blockText b ≡ refusal n
+  refused h = rw (ne-eqb (number (b .answer)) 0 (λ f. h (e ∙ f)), e)

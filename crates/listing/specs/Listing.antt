@@ -1,0 +1,50 @@
+-- "A read refusal prints `refused N` alone; a width refusal replaces the last line by `refused 5 at P`." (01, Plan block). Definitions only.
+use Prim.Native.Nat.{ℕ, _+_}
+use mathlib.Core.List.{List, [], _∷_, _++_}
+use lib.Dec.{eqb}
+use Rattle.notation.specs.Choice.{if_then_else_}
+use Rattle.notation.specs.Text.{ascii}
+use Rattle.op.specs.Lists.{opsOf}
+use Rattle.op.specs.declared.Op.{Op}
+use Rattle.op.specs.declared.Plan.{Plan}
+use Rattle.width.specs.Check.{checkOf}
+use Rattle.width.specs.declared.Verdict.{Verdict}
+use Rattle.width.specs.declared.Verdict.the-variants.{Passes, Malformed, Misfit}
+use Rattle.block.specs.Block.{number, readOf}
+use Rattle.block.specs.declared.Block.{Block}
+use Rattle.listing.specs.Words.{nameOf, decimal, counted, ending}
+
+-- "start 1 ops 3"
+abbrev pub firstLine : ℕ → ℕ → List ℕ
+firstLine start count = counted (ascii "start ") start ++ ending (ascii " ops ") count
+
+-- "0 Clip"
+abbrev pub opLine : ℕ → Op → List ℕ
+opLine i o = decimal i ++ (ascii " " ++ (nameOf o ++ ascii "\n"))
+
+-- a line for each op, the first of them numbered i
+abbrev pub opLines : ℕ → List Op → List ℕ
+opLines i [] = []
+opLines i (o ∷ os) = opLine i o ++ opLines (i + 1) os
+
+-- all lines but the last
+abbrev pub lines : Plan → List ℕ
+lines p = firstLine (p .start) (p .count) ++ opLines 0 (opsOf p)
+
+-- "refused N"
+abbrev pub refusal : ℕ → List ℕ
+refusal n = ending (ascii "refused ") n
+
+-- "end 1"; "a width refusal replaces the last line by `refused 5 at P`". No list that is read is refused by 10.
+abbrev pub listText : Plan → Verdict → List ℕ
+listText p (Passes width) = lines p ++ ending (ascii "end ") width
+listText p (Misfit position) = lines p ++ ending (ascii "refused 5 at ") position
+listText p Malformed = refusal 10
+
+-- "a read refusal prints `refused N` alone"
+abbrev pub blockText : Block → List ℕ
+blockText b = if eqb (number (b .answer)) 0 then listText (b .plan) (checkOf (b .plan)) else refusal (number (b .answer))
+
+-- what is printed for these bytes
+abbrev pub textOf : List ℕ → List ℕ
+textOf bytes = blockText (readOf bytes)
