@@ -3,6 +3,7 @@
 mod cbrt;
 mod ciexyz;
 mod debug;
+mod edges;
 mod encodings;
 mod floats;
 mod fused;
