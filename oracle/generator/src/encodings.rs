@@ -44,7 +44,7 @@ pub const INTENSITIES: [f32; 17] = [
 ];
 
 /// The greatest `g` (01).
-const GREATEST_G: u32 = 16_777_215;
+pub const GREATEST_G: u32 = 16_777_215;
 
 /// The settings of a plan.
 pub struct Settings {

@@ -1,8 +1,10 @@
 //! Writes lists of recorded answers to standard output: `oracle KIND SEED COUNT`. See README.md.
 
+mod block;
 mod cbrt;
 mod ciexyz;
 mod debug;
+mod edges;
 mod encodings;
 mod floats;
 mod fused;
@@ -18,7 +20,7 @@ mod ycbcr;
 
 use std::io::{BufWriter, Write};
 
-const USAGE: &str = "usage: oracle fused|cbrt|ciexyz|plan|merge|run|ycbcr SEED COUNT, \
+const USAGE: &str = "usage: oracle fused|cbrt|ciexyz|plan|merge|run|ycbcr|block SEED COUNT, \
                      or oracle cbrt-census";
 
 fn number<T: std::str::FromStr>(word: Option<String>) -> T {
@@ -42,6 +44,7 @@ fn main() {
         "merge" => merge::write(rng, count, out),
         "run" => run::write(rng, count, out),
         "ycbcr" => ycbcr::write(rng, count, out),
+        "block" => block::write(rng, count, out),
         _ => panic!("{USAGE}"),
     }
     out.flush().expect("standard output");

@@ -22,6 +22,7 @@ pub enum Kind {
     Merge = 14,
     Run = 15,
     Ycbcr = 16,
+    Block = 17,
 }
 
 /// The longest line, with its newline.

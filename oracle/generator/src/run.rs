@@ -1,6 +1,7 @@
 //! Runs of lists that pass the width check and have only carried ops.
 
 use crate::cbrt::exact;
+use crate::edges::{ORDINARY, at_edges};
 use crate::ops::{Op, list};
 use crate::record::{Kind, LONGEST, Record};
 use crate::rng::Rng;
@@ -12,36 +13,85 @@ const LENGTHS: [usize; 18] = [
     0, 1, 2, 3, 4, 5, 7, 8, 9, 15, 16, 17, 31, 32, 33, 63, 64, 65,
 ];
 
+struct Case {
+    start: usize,
+    ops: Vec<Op>,
+    channels: [Vec<f32>; 3],
+}
+
 pub fn write(rng: &mut Rng, count: usize, out: &mut impl Write) {
+    let mut fixed = fixed().into_iter();
     let mut roots = 0;
     for _ in 0..count {
-        let record = loop {
-            let (start, ops) = carried(rng);
-            let length = rng.length();
-            let channels = std::array::from_fn(|_| rng.samples(length));
-            let record = record(start, &ops, channels);
+        let (case, record) = loop {
+            let case = fixed.next().unwrap_or_else(|| random(rng));
+            let record = record(&case);
             if record.bytes() <= LONGEST {
-                roots += ops
-                    .iter()
-                    .flat_map(biases)
-                    .filter(|b| !right_root(*b))
-                    .count();
-                break record;
+                break (case, record);
             }
         };
+        let biases = case.ops.iter().flat_map(biases);
+        roots += biases.filter(|b| !right_root(*b)).count();
         record.write(out);
     }
     eprintln!("run: {count} runs; f32::cbrt as linked is not the nearest for {roots} biases");
 }
 
-fn record(start: usize, ops: &[Op], mut channels: [Vec<f32>; 3]) -> Record {
+/// One op on one sample of each channel, with the samples at the edges and then with the op's floats there.
+fn fixed() -> Vec<Case> {
+    let xyb = [-0.0037930733, -0.003, -0.004, 255.0];
+    let luma = [0.3127, 0.329];
+    let matrix = [0.5, 0.25, 0.125, -0.75, 1.5, 0.375, 0.1, -0.2, 0.9];
+    let ops = [
+        (3, op(0, &xyb)),
+        (1, op(1, &luma)),
+        (3, op(2, &[])),
+        (3, op(3, &matrix)),
+        (1, op(9, &[])),
+        (3, op(9, &[])),
+        (1, [&[4, 3, 0, 1][..], &[0; 5]].concat()), // Unknown
+        (3, [&[4, 4, 0, 0][..], &[0; 5]].concat()), // Linear
+    ];
+    let case = |start: usize, op: Op, samples: [f32; 3]| Case {
+        start,
+        ops: vec![op],
+        channels: samples.map(|sample| vec![sample]),
+    };
+    let samples = ops.iter().flat_map(|(start, op)| {
+        at_edges(ORDINARY).map(move |samples| case(*start, op.clone(), samples))
+    });
+    let xyb = at_edges(xyb).map(|floats| case(3, op(0, &floats), ORDINARY));
+    let luma = at_edges(luma).map(|floats| case(1, op(1, &floats), ORDINARY));
+    let matrix = at_edges(matrix).map(|floats| case(3, op(3, &floats), ORDINARY));
+    samples.chain(xyb).chain(luma).chain(matrix).collect()
+}
+
+/// An op whose fields are all floats.
+fn op(kind: u32, floats: &[f32]) -> Op {
+    std::iter::once(kind)
+        .chain(floats.iter().map(|&x| word(x)))
+        .collect()
+}
+
+fn random(rng: &mut Rng) -> Case {
+    let (start, ops) = carried(rng);
+    let length = rng.length();
+    Case {
+        start,
+        ops,
+        channels: std::array::from_fn(|_| rng.samples(length)),
+    }
+}
+
+fn record(case: &Case) -> Record {
+    let mut channels = case.channels.clone();
     let record = Record::new(Kind::Run)
-        .words(&[start as u32, ops.len() as u32])
-        .words(&ops.concat())
+        .words(&[case.start as u32, case.ops.len() as u32])
+        .words(&case.ops.concat())
         .words(&[channels[0].len() as u32])
         .floats(&channels.concat());
     let [a, b, c] = &mut channels;
-    let width = list(start, ops)
+    let width = list(case.start, &case.ops)
         .run(&mut [a, b, c])
         .expect("a run of carried ops");
     record.words(&[width as u32]).floats(&channels.concat())

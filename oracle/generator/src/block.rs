@@ -1,0 +1,169 @@
+//! Plan blocks, good and damaged. The Rust has none, so a reader judges that is written here, from
+//! 01's table.
+
+mod cases;
+
+use crate::encodings::GREATEST_G;
+use crate::ops::Op;
+use crate::record::{Kind, LONGEST, Record};
+use crate::rng::Rng;
+use std::io::Write;
+
+/// A field of an op, as the table has it; a curve and its `g` are bad or good together.
+#[derive(Clone, Copy)]
+enum Field {
+    Float,
+    Flag,
+    CurveAndG,
+}
+
+use Field::{CurveAndG, Flag, Float};
+
+/// The fields of the kinds 0 to 9. Params are five floats.
+const FIELDS: [&[Field]; 10] = [
+    &[Float; 4],
+    &[Float; 2],
+    &[],
+    &[Float; 9],
+    &[CurveAndG, Flag, Float, Float, Float, Float, Float],
+    &[Float; 5],
+    &[Float, Float, Float, Float, Float, Float, Flag],
+    &[Float, Float, Float, Float, Float, Float, Flag],
+    &[Float; 4],
+    &[],
+];
+
+/// What a good block says, and what follows it.
+struct Block<'a> {
+    start: u8,
+    ops: Vec<Op>,
+    rest: &'a [u8],
+}
+
+/// "Order: under 7 bytes (7), 8, 10, then op by op."
+fn read(bytes: &[u8]) -> Result<Block<'_>, u32> {
+    let (head, mut rest) = bytes.split_first_chunk::<7>().ok_or(7u32)?;
+    let [mark @ .., low, high, start, count] = head;
+    if mark != b"CTP" || u16::from_le_bytes([*low, *high]) != 1 {
+        return Err(8);
+    }
+    if !matches!(start, 1 | 3) || *count > 32 {
+        return Err(10);
+    }
+    let mut ops = Vec::new();
+    for _ in 0..*count {
+        let (op, after) = read_op(rest)?;
+        ops.push(op);
+        rest = after;
+    }
+    Ok(Block {
+        start: *start,
+        ops,
+        rest,
+    })
+}
+
+/// "Kind byte missing (7), kind (9), payload short (7), fields (9)."
+fn read_op(bytes: &[u8]) -> Result<(Op, &[u8]), u32> {
+    let (kind, after) = bytes.split_first().ok_or(7u32)?;
+    let fields = FIELDS.get(*kind as usize).ok_or(9u32)?;
+    let (mut payload, rest) = after.split_at_checked(size(fields)).ok_or(7u32)?;
+    let mut op = vec![*kind as u32];
+    for field in *fields {
+        let (this, others) = payload.split_at(field.size());
+        op.extend(field.read(this).ok_or(9u32)?);
+        payload = others;
+    }
+    Ok((op, rest))
+}
+
+fn size(fields: &[Field]) -> usize {
+    fields.iter().map(|f| f.size()).sum()
+}
+
+impl Field {
+    fn size(self) -> usize {
+        match self {
+            Float => 4,
+            Flag => 1,
+            CurveAndG => 5,
+        }
+    }
+
+    /// Its words, or nothing where it is bad.
+    fn read(self, bytes: &[u8]) -> Option<Vec<u32>> {
+        let little = |b: &[u8]| b.iter().rev().fold(0, |n, &b| n << 8 | b as u32);
+        let words = match self {
+            Float | Flag => vec![little(bytes)],
+            CurveAndG => vec![bytes[0] as u32, little(&bytes[1..])],
+        };
+        let good = match self {
+            Float => !f32::from_bits(words[0]).is_nan(),
+            Flag => words[0] <= 1,
+            CurveAndG => match words[0] {
+                0 | 1 => words[1] <= GREATEST_G,
+                2..=8 => words[1] == 0,
+                _ => false,
+            },
+        };
+        good.then_some(words)
+    }
+}
+
+pub fn write(rng: &mut Rng, count: usize, out: &mut impl Write) {
+    let mut fixed = cases::fixed().into_iter();
+    let mut refused = [0; 11];
+    for _ in 0..count {
+        let (bytes, record) = loop {
+            let bytes = fixed.next().unwrap_or_else(|| cases::random(rng));
+            let record = record(&bytes);
+            if record.bytes() <= LONGEST {
+                break (bytes, record);
+            }
+        };
+        refused[read(&bytes).err().unwrap_or(0) as usize] += 1;
+        record.write(out);
+    }
+    eprintln!(
+        "block: {count} blocks, {} of them refused by 7, {} by 8, {} by 9 and {} by 10",
+        refused[7], refused[8], refused[9], refused[10]
+    );
+}
+
+fn record(bytes: &[u8]) -> Record {
+    let words = bytes.chunks(4).map(|chunk| {
+        let mut four = [0; 4];
+        four[..chunk.len()].copy_from_slice(chunk);
+        u32::from_be_bytes(four)
+    });
+    let record = Record::new(Kind::Block)
+        .words(&[bytes.len() as u32])
+        .words(&words.collect::<Vec<_>>());
+    match read(bytes) {
+        Ok(Block { start, ops, rest }) => record
+            .words(&[0, rest.len() as u32, start as u32, ops.len() as u32])
+            .words(&ops.concat()),
+        Err(number) => record.words(&[number, bytes.len() as u32, 0, 0]),
+    }
+}
+
+#[cfg(test)]
+mod tests {
+    use super::*;
+
+    /// 01's column of payload bytes.
+    #[test]
+    fn payloads() {
+        let sizes = FIELDS.map(size);
+        assert_eq!(sizes, [16, 8, 0, 36, 26, 20, 25, 25, 16, 0]);
+    }
+
+    /// 01's listed block: Clip, LumaToXyz at (0.5, 0.25), XyzToLuma.
+    #[test]
+    fn listed() {
+        let block = read(&cases::LISTED).unwrap();
+        let xy = vec![1, 0.5f32.to_bits(), 0.25f32.to_bits()];
+        assert_eq!((block.start, block.rest), (1, &[][..]));
+        assert_eq!(block.ops, [vec![9], xy, vec![2]]);
+    }
+}
