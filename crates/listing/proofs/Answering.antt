@@ -3,13 +3,12 @@
 use Prim.Native.Nat.{ℕ}
 use mathlib.Core.Path.{_≡_, sym, _∙_}
 use borrow.Author.Tests.{eq-eqb, ne-eqb}
-use Rattle.width.specs.Check.{checkOf}
 use Rattle.block.specs.Block.{number}
 use Rattle.block.specs.declared.Block.{Block}
-use Rattle.listing.specs.Listing.{refusal, listText, blockText}
+use Rattle.listing.specs.Listing.{refusal, planText, blockText}
 
 module _ (b : Block) {n : ℕ} (e : n ≡ number (b .answer)) where
-  pub done : n ≡ 0 → blockText b ≡ listText (b .plan) (checkOf (b .plan))
+  pub done : n ≡ 0 → blockText b ≡ planText (b .plan)
   done h = rw (eq-eqb (number (b .answer)) 0 (sym e ∙ h))
 
   pub refused : ¬ (n ≡ 0) → blockText b ≡ refusal n

@@ -20,7 +20,7 @@ use Rattle.width.specs.declared.Verdict.the-variants.{Passes, Malformed, Misfit
 use Rattle.block.specs.Block.{number, readOf}
 use Rattle.block.specs.declared.Block.{Block}
 use Rattle.listing.specs.Words.{nameOf, digit, decimal, counted, ending}
-use Rattle.listing.specs.Listing.{firstLine, opLine, opLines, lines, refusal, listText, blockText, textOf}
+use Rattle.listing.specs.Listing.{firstLine, opLine, opLines, lines, listText, planText, blockText, textOf}
 use Rattle.listing.proofs.Small.{passes-lawful, misfit-lawful}
 
 either : {A : Type 0} (P : A → Type 0) (b : Bool) {x y : A} → P x → P y → P (if b then x else y)
@@ -70,9 +70,12 @@ module _ (p : Plan) where
   list-short (Misfit i) e = omega (arith, length-append (lines p) (ending (ascii "refused 5 at ") i), all-short (misfit-lawful p e), ending-short (ascii "refused 5 at ") i)
   list-short Malformed e = omega (arith, ending-short (ascii "refused ") 10)
 
+pub plan-short : (p : Plan) → length (planText p) ≤ 736
+plan-short p = list-short p (checkOf p) refl
+
 block-short : (b : Block) → length (blockText b) ≤ 736
 block-short b =
-    either (λ (s : List ℕ). length s ≤ 736) (eqb (number (b .answer)) 0) (list-short (b .plan) (checkOf (b .plan)) refl) (omega (arith, ending-short (ascii "refused ") (number (b .answer))))
+    either (λ (s : List ℕ). length s ≤ 736) (eqb (number (b .answer)) 0) (plan-short (b .plan)) (omega (arith, ending-short (ascii "refused ") (number (b .answer))))
 
 pub short : (bytes : List ℕ) → length (textOf bytes) ≤ 736
 short bytes = block-short (readOf bytes)

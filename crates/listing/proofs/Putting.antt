@@ -3,11 +3,12 @@
 use Prim.Native.Nat.{ℕ, _+_, _-_, _≤_}
 use mathlib.Core.Path.{_≡_, refl, sym, ap, _∙_}
 use mathlib.Core.List.{List, [], _∷_, _++_, append-assoc, append-nil}
+use native.Mathlib.Nat.{zero-add}
 use native.Mathlib.Omega.{arith}
 use lib.ListN.{length, take, drop, length-append, length-drop, take-append-drop, drop-of-length-le}
 use lib.Seq.{length-take-le, take-all, take-at, drop-at, drop-drop}
 use borrow.Rule.Slice.PartMut.{midOf, postOf, putMid}
-use Rattle.listing.specs.Buffer.{Room, Put}
+use Rattle.listing.specs.Buffer.{Room, Put, Listed}
 
 head : (old : List ℕ) (at : ℕ) (s : List ℕ) → Room old at s → length (take at old ++ s) ≡ at + length s
 head old at s room =
@@ -86,3 +87,7 @@ module _ {old : List ℕ} {at : ℕ} {s mid : List ℕ} {m : ℕ} (t u : List �
 
 pub ended : {old : List ℕ} {at : ℕ} {s mid : List ℕ} {m : ℕ} → Goes old at s mid m [] → Put old at s mid m
 ended g = let h = g .room .enough in g .finish (none (omega arith))
+
+-- from the front of the buffer
+pub listed : {old s new : List ℕ} {r : ℕ} → Put old 0 s new r → Listed s old new r
+listed {old} {s} p = record { size = p .next ∙ zero-add (length s); contents = rw (← zero-add (length s)) (p .contents) }

@@ -41,9 +41,13 @@ listText p (Passes width) = lines p ++ ending (ascii "end ") width
 listText p (Misfit position) = lines p ++ ending (ascii "refused 5 at ") position
 listText p Malformed = refusal 10
 
+-- what is printed for a list
+abbrev pub planText : Plan → List ℕ
+planText p = listText p (checkOf p)
+
 -- "a read refusal prints `refused N` alone"
 abbrev pub blockText : Block → List ℕ
-blockText b = if eqb (number (b .answer)) 0 then listText (b .plan) (checkOf (b .plan)) else refusal (number (b .answer))
+blockText b = if eqb (number (b .answer)) 0 then planText (b .plan) else refusal (number (b .answer))
 
 -- what is printed for these bytes
 abbrev pub textOf : List ℕ → List ℕ

@@ -3,8 +3,7 @@ ghost use mathlib.Core.List.{map};
 ghost use Prim.Native.Nat.{_≤_, _<_};
 ghost use lib.ListN.{take};
 ghost use Rattle.op.specs.Lists.{opOf, Lawful};
-ghost use Rattle.width.specs.Check.{checkOf};
-ghost use Rattle.listing.specs.Listing.{firstLine, opLine, opLines, lines, listText, textOf};
+ghost use Rattle.listing.specs.Listing.{firstLine, opLine, opLines, lines, planText, textOf};
 ghost use Rattle.listing.specs.Buffer.{Room, Put, Listed};
 
 mod words; // words.rt: names and numbers
@@ -69,8 +68,8 @@ fn put_lines(out: &mut [u8], plan: Plan) -> usize
 }
 
 fn put_list(out: &mut [u8], plan: Plan) -> usize
-    requires { ⌜ Room (now out) 0 (listText plan (checkOf plan)) ⌝ }
-    ensures { λ r. ⌜ Put (now (out .entry)) 0 (listText plan (checkOf plan)) (now (out .exit)) r ⌝ }
+    requires { ⌜ Room (now out) 0 (planText plan) ⌝ }
+    ensures { λ r. ⌜ Put (now (out .entry)) 0 (planText plan) (now (out .exit)) r ⌝ }
 {
     match width::check(plan) {
         Verdict::Passes { width } => {
@@ -99,9 +98,16 @@ fn put_text(out: &mut [u8], bytes: &[u8]) -> usize
     put_ending(out, 0, b"refused ", number as usize)
 }
 
-// The text of a block at the front of a buffer that is always large enough; the answer is how long the text is.
+// The text of a list, which need not come from a block, at the front of a buffer that is always large enough; the answer is how long the text is.
+pub fn list_plan(plan: Plan, out: &mut [u8; 1024]) -> usize
+    ensures { λ r. ⌜ Listed (planText plan) (now (out .entry)) (now (out .exit)) r ⌝ }
+{
+    put_list(out, plan)
+}
+
+// The same of the list in a plan block, or of why the block is refused.
 pub fn list(bytes: &[u8], out: &mut [u8; 1024]) -> usize
-    ensures { λ r. ⌜ Listed (now (bytes .entry)) (now (out .entry)) (now (out .exit)) r ⌝ }
+    ensures { λ r. ⌜ Listed (textOf (now (bytes .entry))) (now (out .entry)) (now (out .exit)) r ⌝ }
 {
     put_text(out, bytes)
 }

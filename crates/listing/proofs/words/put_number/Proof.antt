@@ -1,7 +1,9 @@
 -- `words::put_number` meets its contract.
 -- One digit or two, by the test.
 use borrow.Author.Needs.{needs}
-use mathlib.Core.Path.{sym}
+use mathlib.Core.Path.{ap}
+use native.Mathlib.Omega.{arith}
+use lib.ListN.{length}
 use Rattle.listing.proofs.Decimals.{one, two}
 use Rattle.listing.proofs.words.put_number.Statement.{statement}
 use Rattle.listing.proofs.words.put_number.Tie as tie
@@ -16,7 +18,7 @@ slice-aggregate-put : tie.Need-slice-aggregate-put
 slice-aggregate-put c = search needs
 
 put-requires : tie.Need-put-requires
-put-requires c κs = rw (sym (one (c .before .before .before .before .args .n) (c .before .before .if1 .taken))) (c .before .before .before .before .pre .0)
+put-requires c κs = record { enough = omega (arith, ap length (one (c .before .before .before .before .args .n) (c .before .before .if1 .taken)), c .before .before .before .before .pre .0 .enough) }
 
 same-length : tie.Need-same-length
 same-length c = search needs
@@ -34,7 +36,7 @@ slice-aggregate-put-2 : tie.Need-slice-aggregate-put-2
 slice-aggregate-put-2 c = search needs
 
 put-requires-2 : tie.Need-put-requires-2
-put-requires-2 c κs = rw (sym (two (c .before .before .before .before .args .n) (c .before .before .if1 .left))) (c .before .before .before .before .pre .0)
+put-requires-2 c κs = record { enough = omega (arith, ap length (two (c .before .before .before .before .args .n) (c .before .before .if1 .left)), c .before .before .before .before .pre .0 .enough) }
 
 same-length-2 : tie.Need-same-length-2
 same-length-2 c = search needs
