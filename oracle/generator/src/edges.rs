@@ -1,32 +1,16 @@
 //! Floats at the edges of their range, of zero and of one: as single samples and as fields of ops.
 
-use crate::floats::{LARGEST_SUBNORMAL, MAX, TINY};
+use crate::floats::SPECIAL;
 
-pub const EDGES: [f32; 16] = [
-    0.0,
-    -0.0,
-    TINY,
-    -TINY,
-    LARGEST_SUBNORMAL,
-    f32::MIN_POSITIVE,
-    1.0 - f32::EPSILON / 2.0, // the next below 1
-    1.0,
-    1.0 + f32::EPSILON,
-    -1.0,
-    255.0,
-    MAX,
-    -MAX,
-    f32::INFINITY,
-    f32::NEG_INFINITY,
-    f32::NAN,
-];
+/// Besides the special values, the next below 1 and the scale of intensities.
+const MORE: [f32; 2] = [1.0 - f32::EPSILON / 2.0, 255.0];
 
 /// Samples of an ordinary pixel, one to a channel.
 pub const ORDINARY: [f32; 3] = [0.25, 0.625, 0.40625];
 
 /// Each edge in each place of a row while the others stay, and then in every place at once.
 pub fn at_edges<const N: usize>(row: [f32; N]) -> impl Iterator<Item = [f32; N]> {
-    EDGES.into_iter().flat_map(move |edge| {
+    SPECIAL.into_iter().chain(MORE).flat_map(move |edge| {
         let alone = move |place| {
             let mut other = row;
             other[place] = edge;
