@@ -1,17 +1,18 @@
 -- "ICC channel count of a byte slice: under 20 bytes 3; else bytes 16 to 19 `GRAY` 1, `CMYK` 4, others 3." (01, Samples)
 use Prim.Native.Nat.{ℕ}
 use mathlib.Core.Bool.{Bool}
-use mathlib.Core.List.{List, [], _∷_}
+use mathlib.Core.List.{List}
 use lib.Dec.{eqb, ltb}
 use lib.ListN.{length, take, drop}
 use Rattle.notation.specs.Choice.{if_then_else_}
+use Rattle.notation.specs.Text.{ascii}
 use Rattle.same.specs.Same.{sameAll}
 
 abbrev pub gray : List ℕ
-gray = 0x47 ∷ 0x52 ∷ 0x41 ∷ 0x59 ∷ []
+gray = ascii "GRAY"
 
 abbrev pub cmyk : List ℕ
-cmyk = 0x43 ∷ 0x4d ∷ 0x59 ∷ 0x4b ∷ []
+cmyk = ascii "CMYK"
 
 -- whether bytes 16 to 19 of a profile are these
 abbrev pub signatureIs : List ℕ → List ℕ → Bool
