@@ -14,7 +14,7 @@ shared-slice-read-kind : tie.Need-shared-slice-read-kind
 shared-slice-read-kind c = search needs
 
 returns-2 : tie.Need-returns-2
-returns-2 c = unknown (c .before .before .before .before .args .s .now) (c .before .before .if1 .left) (c .if2 .taken)
+returns-2 c = unknown (c .before .before .before .before .args .s .now) (c .before .before .if1 .left) (omega (arith, c .if2 .taken))
 
 payload-requires : tie.Need-payload-requires
 payload-requires c κs = search needs
