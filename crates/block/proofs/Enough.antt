@@ -11,16 +11,16 @@ use lib.ListN.{length, take, drop, length-take}
 use lib.Seq.{take-all, take-nil, take-take}
 use Rattle.notation.specs.Choice.{if_then_else_}
 use Rattle.binary32.proofs.Size.{split-le}
-use Rattle.op.specs.Lists.{wellFormed}
+use Rattle.list.specs.Lists.{wellFormed}
 use Rattle.op.specs.declared.Op.{Op}
-use Rattle.op.proofs.Formed.{formed-exactly}
+use Rattle.list.proofs.Formed.{formed-exactly}
 use Rattle.block.specs.Fields.{byteAt, payloadOf}
 use Rattle.block.specs.Block.{refusedBy, rightMark, opIn, afterKind, onFound, before, opsIn, listed, readOf}
 use Rattle.block.specs.Refusals.{Stands, stands}
-use Rattle.block.specs.declared.Answer.the-variants.{WrongMark, Malformed}
+use Rattle.block.specs.declared.Reading.the-variants.{WrongMark, Malformed}
 use Rattle.block.specs.declared.Found.{Found}
 use Rattle.block.specs.declared.Found.the-variants.{Whole, Refused}
-use Rattle.block.proofs.Front.{payload-small}
+use Rattle.block.proofs.Layouts.{payload-small}
 use Rattle.block.proofs.Heads.{drop-take, same-byte}
 use Rattle.block.proofs.Ways.{found-stands}
 
@@ -47,7 +47,7 @@ ops-enough (suc n) s k h = rw (op-enough s k (omega arith)) (by (opIn s) refl (�
     by : (f : Found) → opIn s ≡ f → ((size : ℕ) → size ≤ 37 → opsIn n (take (k - size) (drop size s)) ≡ opsIn n (drop size s))
         → onFound f (λ o size. before o size (opsIn n (drop size (take k s)))) ≡ onFound f (λ o size. before o size (opsIn n (drop size s)))
     by (Whole o size) e rest = rw (drop-take size k s, rest size (op-small (found-stands s e)))
-    by (Refused answer) e rest = refl
+    by (Refused reading) e rest = refl
 
 pub enough : (s : List ℕ) (k : ℕ) → 1191 ≤ k → readOf (take k s) ≡ readOf s
 enough s k h = ⊎-elim (λ l. ap readOf (take-all k s l)) cut (split-le (length s) k)

@@ -8,16 +8,11 @@ use native.Mathlib.Omega.{arith}
 use borrow.Author.Tests.{lt-ltb, le-ltb}
 use lib.ListN.{length, take, drop, length-drop}
 use Rattle.op.specs.declared.Op.{Op}
-use Rattle.notation.proofs.Tables.{at-most}
-use Rattle.block.specs.Fields.{byteAt, payloads, payloadOf, opOf}
-use Rattle.block.specs.Layout.{badField}
+use Rattle.block.specs.Fields.{byteAt, payloadOf, opRead}
+use Rattle.block.specs.BadFields.{badField}
 use Rattle.block.specs.Block.{opIn, afterKind, fieldsIn}
-use Rattle.block.specs.declared.Answer.the-variants.{Short, BadOp}
+use Rattle.block.specs.declared.Reading.the-variants.{Short, BadOp}
 use Rattle.block.specs.declared.Found.the-variants.{Whole, Refused}
-
--- no payload is longer than a matrix
-pub payload-small : (kind : ℕ) → payloadOf kind ≤ 36
-payload-small kind = at-most payloads kind
 
 pub no-kind : (s : List ℕ) → length s ≡ 0 → Refused Short ≡ opIn s
 no-kind [] e = refl
@@ -50,5 +45,5 @@ module _ (s : List ℕ) (h : ¬ (length s ≡ 0)) where
     pub bad : {b : Bool} → b ≡ badField (byteAt s 0) (take (1 + n - 1) (drop 1 s)) → b ≡ true → Refused BadOp ≡ opIn s
     bad p q = rw (whole, ← p, q)
 
-    pub good : {b : Bool} {o : Op} → b ≡ badField (byteAt s 0) (take (1 + n - 1) (drop 1 s)) → b ≡ false → o ≡ opOf (byteAt s 0) (take (1 + n - 1) (drop 1 s)) → Whole o (1 + n) ≡ opIn s
+    pub good : {b : Bool} {o : Op} → b ≡ badField (byteAt s 0) (take (1 + n - 1) (drop 1 s)) → b ≡ false → o ≡ opRead (byteAt s 0) (take (1 + n - 1) (drop 1 s)) → Whole o (1 + n) ≡ opIn s
     good p q r = let f : 1 + n ≡ suc (payloadOf (byteAt s 0)) = omega arith in rw (whole, ← p, q, r, f)

@@ -1,16 +1,19 @@
--- Theorems: Exactly (when each answer is given), Determined.
+-- Theorems: Exactly (when each answer is given), Lawfulness (the list that is read), Prefixes, Follows and Enough (which bytes are looked at),
+-- Layouts (the bytes of each kind), Determined.
 pub mod Exactly
+pub mod Lawfulness
 pub mod Prefixes
 pub mod Follows
 pub mod Enough
-pub mod Determined
--- their laws, and those of the code
-pub mod Pattern
-pub mod Nans
 pub mod Layouts
+pub mod Determined
+-- their laws
 pub mod Badness
-pub mod Front
 pub mod Ways
-pub mod Turn
 pub mod Judging
 pub mod Heads
+-- laws of the code
+pub mod Walking
+pub mod Laid
+pub mod Front
+pub mod Turn

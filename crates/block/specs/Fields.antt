@@ -1,26 +1,31 @@
--- "A kind byte and its fields in f32 unless said": what the fields stand for. (01, Plan block). Definitions only.
--- s is the payload of an op, the bytes that follow its kind byte.
+-- "A kind byte and its fields in f32 unless said": the bytes of the fields, and what they stand for. (01, Plan block). Definitions only.
+-- s is what follows the kind byte of an op, from one of its fields on.
 use Prim.Native.Nat.{ℕ, _+_, _*_}
-use mathlib.Core.Bool.{Bool}
 use mathlib.Core.List.{List, [], _∷_}
 use lib.Dec.{eqb}
-use lib.ListN.{getD}
+use lib.ListN.{getD, drop}
 use lib.Ieee.{Float}
 use Rattle.notation.specs.F32.{bits}
-use Rattle.ciexyz.specs.declared.Vec3.{Vec3}
-use Rattle.ciexyz.specs.Matrix.{byRows}
-use Rattle.op.specs.declared.Luminances.{Luminances}
-use Rattle.op.specs.declared.HdrParams.{HdrParams}
 use Rattle.op.specs.declared.Op.{Op}
-use Rattle.op.specs.declared.Op.the-variants as O
-use Rattle.op.specs.Curves.{curveNumbered}
+use Rattle.parts.specs.Layouts.{Field, float, flag, curve, layoutOf}
+use Rattle.parts.specs.Curves.{curveNumbered}
+use Rattle.parts.specs.Parts.{opBy}
+use Rattle.parts.specs.declared.Value.{Value}
+use Rattle.parts.specs.declared.Value.the-variants.{Float as the-float, Flag as the-flag, Curve as the-curve}
 
--- "payload bytes", for the kinds 0 to 9
-abbrev pub payloads : List ℕ
-payloads = 16 ∷ 8 ∷ 0 ∷ 36 ∷ 26 ∷ 20 ∷ 25 ∷ 25 ∷ 16 ∷ 0 ∷ []
+-- an f32; a u8; "curve u8, g u32"
+abbrev pub sizeOf : Field → ℕ
+sizeOf float = 4
+sizeOf flag = 1
+sizeOf curve = 5
 
+abbrev pub bytesOf : List Field → ℕ
+bytesOf [] = 0
+bytesOf (f ∷ fs) = sizeOf f + bytesOf fs
+
+-- "payload bytes"
 abbrev pub payloadOf : ℕ → ℕ
-payloadOf kind = getD payloads kind 0
+payloadOf kind = bytesOf (layoutOf kind)
 
 abbrev pub byteAt : List ℕ → ℕ → ℕ
 byteAt s at = getD s at 0
@@ -32,37 +37,20 @@ u16At s at = byteAt s at + 0x100 * byteAt s (at + 1)
 abbrev pub u32At : List ℕ → ℕ → ℕ
 u32At s at = u16At s at + 0x1_0000 * u16At s (at + 2)
 
-unfoldable pub floatAt : List ℕ → ℕ → Float
-floatAt s at = bits (u32At s at)
+unfoldable pub firstFloat : List ℕ → Float
+firstFloat s = bits (u32At s 0)
 
-abbrev pub flagAt : List ℕ → ℕ → Bool
-flagAt s at = eqb (byteAt s at) 1
+-- the value of the field at the front of s
+abbrev pub valueIn : Field → List ℕ → Value
+valueIn float s = the-float (firstFloat s)
+valueIn flag s = the-flag (eqb (byteAt s 0) 1)
+valueIn curve s = the-curve (curveNumbered (byteAt s 0) (u32At s 1))
 
-unfoldable pub vec3At : List ℕ → ℕ → Vec3
-vec3At s at = record { v0 = floatAt s at; v1 = floatAt s (at + 4); v2 = floatAt s (at + 8) }
+-- the values of these fields, one after the other from the front of s
+abbrev pub valuesIn : List Field → List ℕ → List Value
+valuesIn [] s = []
+valuesIn (f ∷ fs) s = valueIn f s ∷ valuesIn fs (drop (sizeOf f) s)
 
-unfoldable pub luminancesAt : List ℕ → ℕ → Luminances
-luminancesAt s at = record { red = floatAt s at; green = floatAt s (at + 4); blue = floatAt s (at + 8) }
-
--- "Params: three luminances, intensity, min_nits."
-unfoldable pub paramsAt : List ℕ → ℕ → HdrParams
-paramsAt s at = record { luminances = luminancesAt s at; «intensity_target» = floatAt s (at + 12); «min_nits» = floatAt s (at + 16) }
-
--- the rows of the table, from 0 to 9
-abbrev pub opRows : List ℕ → List Op
-opRows s =
-    O.XybToMixedLms (vec3At s 0) (floatAt s 12)
-    ∷ O.LumaToXyz (record { x = floatAt s 0; y = floatAt s 4 })
-    ∷ O.XyzToLuma
-    ∷ O.Matrix (byRows (vec3At s 0) (vec3At s 12) (vec3At s 24))
-    ∷ O.TransferFunction (curveNumbered (byteAt s 0) (u32At s 1)) (paramsAt s 6) (flagAt s 5)
-    ∷ O.HlgInverseOotf (paramsAt s 0)
-    ∷ O.ToneMapRec2408 (paramsAt s 0) (floatAt s 20) (flagAt s 24)
-    ∷ O.ToneMapLumaRec2408 (paramsAt s 0) (floatAt s 20) (flagAt s 24)
-    ∷ O.GamutMap (luminancesAt s 0) (floatAt s 12)
-    ∷ O.Clip
-    ∷ []
-
--- the op of a kind with these fields
-unfoldable pub opOf : ℕ → List ℕ → Op
-opOf kind s = getD (opRows s) kind O.Clip
+-- the op of a kind with the fields at the front of s
+unfoldable pub opRead : ℕ → List ℕ → Op
+opRead kind s = opBy kind (valuesIn (layoutOf kind) s)

@@ -1,27 +1,41 @@
 // The fields of an op of a plan block, which follow its kind byte: what they stand for, and which are bad.
+// Cells up to a count say by their values which fields these are.
 ghost use mathlib.Core.Path.{_≡_};
-ghost use Prim.Native.Nat.{_+_, _*_, _≤_};
-ghost use lib.ListN.{length, drop};
-ghost use Rattle.ciexyz.specs.Matrix.{byRows};
-ghost use Rattle.block.specs.Fields.{u16At, u32At, floatAt, vec3At, luminancesAt, paramsAt, payloadOf, opOf};
-ghost use Rattle.block.specs.Layout.{floats, badCurve, anyBad, badField};
-use ciexyz::Mat3;
-use ciexyz::Vec3;
-use ciexyz::Xy;
-use op::HdrParams;
-use op::Luminances;
-use op::Op;
-
-// The bytes of the fields, by kind.
-const PAYLOADS: [usize; 10] = [16, 8, 0, 36, 26, 20, 25, 25, 16, 0];
+ghost use mathlib.Core.List.{map};
+ghost use Prim.Native.Nat.{_+_, _≤_};
+ghost use lib.ListN.{length, take};
+ghost use Rattle.parts.specs.Parts.{fieldOf, fieldIn, valueOf};
+ghost use Rattle.block.specs.Fields.{sizeOf, bytesOf, u16At, u32At, firstFloat, valueIn, valuesIn};
+ghost use Rattle.block.specs.BadFields.{badCurve, isBad, anyBad};
+use parts::Cell;
+use parts::Value;
 
 const LARGEST_G: u32 = 16_777_215;
 
-pub(crate) fn payload(kind: u8) -> usize
-    requires { ⌜ kind ≤ 9 ⌝ }
-    ensures { λ r. ⌜ r ≡ payloadOf kind ⌝ }
+fn size_of(blank: Value) -> usize
+    ensures { λ r. ⌜ r ≡ sizeOf (fieldOf blank) ⌝ }
 {
-    PAYLOADS[kind as usize]
+    match blank {
+        Value::Float(_) => 4,
+        Value::Flag(_) => 1,
+        Value::Curve(_) => 5,
+    }
+}
+
+// The bytes of all the fields.
+pub(crate) fn payload(cells: [Cell; 9], count: usize) -> usize
+    requires { ⌜ count ≤ 9 ⌝ }
+    ensures { λ r. ⌜ r ≡ bytesOf (map fieldIn (take count cells)) ⌝ }
+{
+    let mut size: usize = 0;
+    let mut i: usize = 0;
+    while i < count {
+        let cell = cells[i];
+        let blank = cell.0;
+        size += size_of(blank);
+        i += 1;
+    }
+    size
 }
 
 pub(crate) fn u16_at(s: &[u8], at: usize) -> u16
@@ -41,110 +55,12 @@ fn u32_at(s: &[u8], at: usize) -> u32
 }
 
 // Every NaN's pattern is the one NaN.
-fn float_at(s: &[u8], at: usize) -> f32
-    requires { ⌜ at + 4 ≤ length (now s) ⌝ }
-    ensures { λ r. ⌜ r ≡ floatAt (now (s .entry)) at ⌝ }
+fn first_float(s: &[u8]) -> f32
+    requires { ⌜ 4 ≤ length (now s) ⌝ }
+    ensures { λ r. ⌜ r ≡ firstFloat (now (s .entry)) ⌝ }
 {
-    let bits = u32_at(s, at) as u64;
+    let bits = u32_at(s, 0) as u64;
     binary32::put_together(bits >= 0x8000_0000, bits % 0x8000_0000)
-}
-
-fn vec3_at(s: &[u8], at: usize) -> Vec3
-    requires { ⌜ at + 12 ≤ length (now s) ⌝ }
-    ensures { λ r. ⌜ r ≡ vec3At (now (s .entry)) at ⌝ }
-{
-    Vec3 {
-        v0: float_at(s, at),
-        v1: float_at(s, at + 4),
-        v2: float_at(s, at + 8),
-    }
-}
-
-fn luminances_at(s: &[u8], at: usize) -> Luminances
-    requires { ⌜ at + 12 ≤ length (now s) ⌝ }
-    ensures { λ r. ⌜ r ≡ luminancesAt (now (s .entry)) at ⌝ }
-{
-    Luminances {
-        red: float_at(s, at),
-        green: float_at(s, at + 4),
-        blue: float_at(s, at + 8),
-    }
-}
-
-fn params_at(s: &[u8], at: usize) -> HdrParams
-    requires { ⌜ at + 20 ≤ length (now s) ⌝ }
-    ensures { λ r. ⌜ r ≡ paramsAt (now (s .entry)) at ⌝ }
-{
-    HdrParams {
-        luminances: luminances_at(s, at),
-        intensity_target: float_at(s, at + 12),
-        min_nits: float_at(s, at + 16),
-    }
-}
-
-fn matrix(s: &[u8]) -> Mat3
-    requires { ⌜ 36 ≤ length (now s) ⌝ }
-    ensures { λ r. ⌜ r ≡ byRows (vec3At (now (s .entry)) 0) (vec3At (now (s .entry)) 12) (vec3At (now (s .entry)) 24) ⌝ }
-{
-    ciexyz::mat_by_rows(vec3_at(s, 0), vec3_at(s, 12), vec3_at(s, 24))
-}
-
-// The op of a kind with these fields.
-pub(crate) fn op_of(kind: u8, s: &[u8]) -> Op
-    requires { ⌜ payloadOf kind ≤ length (now s) ⌝ }
-    ensures { λ r. ⌜ r ≡ opOf kind (now (s .entry)) ⌝ }
-{
-    match kind {
-        0 => Op::XybToMixedLms {
-            opsin_bias: vec3_at(s, 0),
-            intensity_target: float_at(s, 12),
-        },
-        1 => Op::LumaToXyz {
-            illuminant: Xy {
-                x: float_at(s, 0),
-                y: float_at(s, 4),
-            },
-        },
-        2 => Op::XyzToLuma,
-        3 => Op::Matrix(matrix(s)),
-        4 => Op::TransferFunction {
-            curve: op::curve_numbered(s[0] as u32, u32_at(s, 1)),
-            hdr_params: params_at(s, 6),
-            inverse: s[5] == 1,
-        },
-        5 => Op::HlgInverseOotf(params_at(s, 0)),
-        6 => Op::ToneMapRec2408 {
-            hdr_params: params_at(s, 0),
-            target_display_luminance: float_at(s, 20),
-            detect_peak: s[24] == 1,
-        },
-        7 => Op::ToneMapLumaRec2408 {
-            hdr_params: params_at(s, 0),
-            target_display_luminance: float_at(s, 20),
-            detect_peak: s[24] == 1,
-        },
-        8 => Op::GamutMap {
-            luminances: luminances_at(s, 0),
-            saturation_factor: float_at(s, 12),
-        },
-        _ => Op::Clip,
-    }
-}
-
-// Whether one of the n floats from a place on is a NaN.
-fn any_nan(s: &[u8], at: usize, n: usize) -> bool
-    requires { ⌜ at + 4 * n ≤ length (now s) ⌝ }
-    ensures { λ r. ⌜ r ≡ anyBad (floats n) (drop at (now (s .entry))) ⌝ }
-{
-    let mut i: usize = 0;
-    while i < n {
-        let x = float_at(s, at + 4 * i);
-        if x != x {
-            return true;
-        }
-        i += 1;
-    }
-    false
 }
 
 fn bad_curve(n: u8, g: u32) -> bool
@@ -162,21 +78,66 @@ fn bad_curve(n: u8, g: u32) -> bool
     g != 0
 }
 
-// Whether one of the fields of an op of this kind is bad.
-pub(crate) fn bad_field(kind: u8, s: &[u8]) -> bool
-    requires { ⌜ payloadOf kind ≤ length (now s) ⌝ }
-    ensures { λ r. ⌜ r ≡ badField kind (now (s .entry)) ⌝ }
+// Whether the field at the front of a slice is bad.
+fn is_bad(blank: Value, s: &[u8]) -> bool
+    requires { ⌜ sizeOf (fieldOf blank) ≤ length (now s) ⌝ }
+    ensures { λ r. ⌜ r ≡ isBad (fieldOf blank) (now (s .entry)) ⌝ }
 {
-    match kind {
-        0 => any_nan(s, 0, 4),
-        1 => any_nan(s, 0, 2),
-        2 => false,
-        3 => any_nan(s, 0, 9),
-        4 => bad_curve(s[0], u32_at(s, 1)) | (s[5] > 1) | any_nan(s, 6, 5),
-        5 => any_nan(s, 0, 5),
-        6 => any_nan(s, 0, 6) | (s[24] > 1),
-        7 => any_nan(s, 0, 6) | (s[24] > 1),
-        8 => any_nan(s, 0, 4),
-        _ => false,
+    match blank {
+        Value::Float(_) => {
+            let x = first_float(s);
+            x != x
+        }
+        Value::Flag(_) => s[0] > 1,
+        Value::Curve(_) => bad_curve(s[0], u32_at(s, 1)),
     }
+}
+
+// Whether one of the fields, one after the other, is bad.
+pub(crate) fn any_bad(cells: [Cell; 9], count: usize, s: &[u8]) -> bool
+    requires { ⌜ (count ≤ 9) × (bytesOf (map fieldIn (take count cells)) ≤ length (now s)) ⌝ }
+    ensures { λ r. ⌜ r ≡ anyBad (map fieldIn (take count cells)) (now (s .entry)) ⌝ }
+{
+    let mut at: usize = 0;
+    let mut i: usize = 0;
+    while i < count {
+        let cell = cells[i];
+        let blank = cell.0;
+        if is_bad(blank, &s[at..]) {
+            return true;
+        }
+        at += size_of(blank);
+        i += 1;
+    }
+    false
+}
+
+// The value of the field at the front of a slice.
+fn value_in(blank: Value, s: &[u8]) -> Value
+    requires { ⌜ sizeOf (fieldOf blank) ≤ length (now s) ⌝ }
+    ensures { λ r. ⌜ r ≡ valueIn (fieldOf blank) (now (s .entry)) ⌝ }
+{
+    match blank {
+        Value::Float(_) => Value::Float(first_float(s)),
+        Value::Flag(_) => Value::Flag(s[0] == 1),
+        Value::Curve(_) => Value::Curve(parts::curve_numbered(s[0] as u32, u32_at(s, 1))),
+    }
+}
+
+// The values of the fields, one after the other, in the first cells.
+pub(crate) fn values_in(blanks: [Cell; 9], count: usize, s: &[u8]) -> [Cell; 9]
+    requires { ⌜ (count ≤ 9) × (bytesOf (map fieldIn (take count blanks)) ≤ length (now s)) ⌝ }
+    ensures { λ r. ⌜ map valueOf (take count r) ≡ valuesIn (map fieldIn (take count blanks)) (now (s .entry)) ⌝ }
+{
+    let mut cells = blanks;
+    let mut at: usize = 0;
+    let mut i: usize = 0;
+    while i < count {
+        let cell = blanks[i];
+        let blank = cell.0;
+        cells[i] = Cell(value_in(blank, &s[at..]));
+        at += size_of(blank);
+        i += 1;
+    }
+    cells
 }

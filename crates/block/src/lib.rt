@@ -2,23 +2,24 @@
 ghost use mathlib.Core.Path.{_≡_};
 ghost use Prim.Native.Nat.{_≤_};
 ghost use lib.ListN.{length, drop};
-ghost use Rattle.block.specs.Fields.{byteAt};
-ghost use Rattle.block.specs.Block.{number as numberOf, refusedBy, rightMark, opIn, opsIn, listed, readOf, RestOf};
+ghost use Rattle.list.specs.Lists.{Formed};
+ghost use Rattle.block.specs.Block.{paper, refusedBy, rightMark, opIn, opsIn, listed, readOf, RestOf};
 
-mod fields; // fields.rt: the fields of each kind of op
+mod fields; // fields.rt: the fields of an op
 
+use list::Plan;
+use notation::Answer;
 use op::Op;
-use op::Plan;
 
-const MARK: [u8; 3] = [b'C', b'T', b'P'];
+pub const MARK: [u8; 3] = [b'C', b'T', b'P'];
 
-const VERSION: u16 = 1;
+pub const VERSION: u16 = 1;
 
 // The bytes before the ops.
 const HEAD: usize = 7;
 
 // What reading answers.
-pub enum Answer {
+pub enum Reading {
     Done,
     // 7: the block ends early.
     Short,
@@ -32,7 +33,7 @@ pub enum Answer {
 
 // What was read: the list, and how many bytes the block takes; the empty list and none where reading is refused.
 pub struct Block {
-    pub answer: Answer,
+    pub answer: Reading,
     pub plan: Plan,
     pub used: usize,
 }
@@ -40,28 +41,48 @@ pub struct Block {
 // An op and the bytes that it takes, or a refusal.
 enum Found {
     Whole { op: Op, size: usize },
-    Refused(Answer),
+    Refused(Reading),
 }
 
-// The paper's number of an answer.
-pub fn number(answer: Answer) -> u8
-    ensures { λ r. ⌜ r ≡ numberOf answer ⌝ }
+// The paper's answer.
+pub fn paper(reading: Reading) -> Answer
+    ensures { λ r. ⌜ r ≡ paper reading ⌝ }
 {
-    match answer {
-        Answer::Done => 0,
-        Answer::Short => 7,
-        Answer::WrongMark => 8,
-        Answer::BadOp => 9,
-        Answer::Malformed => 10,
+    match reading {
+        Reading::Done => Answer {
+            number: 0,
+            position: 0,
+            width: 0,
+        },
+        Reading::Short => Answer {
+            number: 7,
+            position: 0,
+            width: 0,
+        },
+        Reading::WrongMark => Answer {
+            number: 8,
+            position: 0,
+            width: 0,
+        },
+        Reading::BadOp => Answer {
+            number: 9,
+            position: 0,
+            width: 0,
+        },
+        Reading::Malformed => Answer {
+            number: 10,
+            position: 0,
+            width: 0,
+        },
     }
 }
 
-fn refused_by(answer: Answer) -> Block
-    ensures { λ r. ⌜ r ≡ refusedBy answer ⌝ }
+fn refused_by(reading: Reading) -> Block
+    ensures { λ r. ⌜ r ≡ refusedBy reading ⌝ }
 {
     Block {
-        answer,
-        plan: op::empty(0),
+        answer: reading,
+        plan: list::empty(0),
         used: 0,
     }
 }
@@ -78,48 +99,51 @@ fn read_op(s: &[u8]) -> Found
     ensures { λ r. ⌜ r ≡ opIn (now (s .entry)) ⌝ }
 {
     if s.len() == 0 {
-        return Found::Refused(Answer::Short);
+        return Found::Refused(Reading::Short);
     }
     let kind = s[0];
     if kind > 9 {
-        return Found::Refused(Answer::BadOp);
+        return Found::Refused(Reading::BadOp);
     }
-    let size = 1 + fields::payload(kind);
+    let layout = parts::layout_of(kind);
+    let fields = layout.cells;
+    let count = layout.count;
+    let size = 1 + fields::payload(fields, count);
     if s.len() < size {
-        return Found::Refused(Answer::Short);
+        return Found::Refused(Reading::Short);
     }
     let payload = &s[1..size];
-    if fields::bad_field(kind, payload) {
-        return Found::Refused(Answer::BadOp);
+    if fields::any_bad(fields, count, payload) {
+        return Found::Refused(Reading::BadOp);
     }
     Found::Whole {
-        op: fields::op_of(kind, payload),
+        op: parts::op_by(kind, fields::values_in(fields, count, payload)),
         size,
     }
 }
 
 // Op by op, each from where the one before it ends.
 fn read_ops(s: &[u8], start: u8, count: u8) -> Block
-    requires { ⌜ (7 ≤ length (now s)) × (count ≤ 32) ⌝ }
+    requires { ⌜ (7 ≤ length (now s)) × Formed start count ⌝ }
     ensures { λ r. ⌜ r ≡ listed start (opsIn count (drop 7 (now (s .entry)))) ⌝ }
 {
-    let mut plan = op::empty(start);
+    let mut plan = list::empty(start);
     let mut used = HEAD;
     let mut i: u8 = 0;
     while i < count {
         match read_op(&s[used..]) {
             Found::Whole { op, size } => {
-                plan = op::push(plan, op);
+                plan = list::push(plan, op);
                 used += size;
             }
-            Found::Refused(answer) => {
-                return refused_by(answer);
+            Found::Refused(reading) => {
+                return refused_by(reading);
             }
         }
         i += 1;
     }
     Block {
-        answer: Answer::Done,
+        answer: Reading::Done,
         plan,
         used,
     }
@@ -129,15 +153,15 @@ pub fn read(bytes: &[u8]) -> Block
     ensures { λ r. ⌜ r ≡ readOf (now (bytes .entry)) ⌝ }
 {
     if bytes.len() < HEAD {
-        return refused_by(Answer::Short);
+        return refused_by(Reading::Short);
     }
     if !right_mark(bytes) {
-        return refused_by(Answer::WrongMark);
+        return refused_by(Reading::WrongMark);
     }
     let start = bytes[5];
     let count = bytes[6];
-    if !op::well_formed(start, count as usize) {
-        return refused_by(Answer::Malformed);
+    if !list::well_formed(start, count as usize) {
+        return refused_by(Reading::Malformed);
     }
     read_ops(bytes, start, count)
 }

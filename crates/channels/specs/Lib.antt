@@ -1,3 +1,3 @@
--- Channels as lists of samples, and conversions of them.
+-- Channels as lists of samples, and what an op's own step on them answers.
 pub mod Channels
-pub mod Conversions
+pub mod Stepping

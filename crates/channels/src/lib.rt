@@ -1,12 +1,33 @@
-// Three lent channels: whether they are equally long, and what a conversion of them answers.
+// Three lent channels: whether they are equally long, and what an op's own step on them answers.
 ghost use mathlib.Core.Path.{_≡_};
 ghost use Rattle.channels.specs.Channels.{sameLengths};
+ghost use Rattle.channels.specs.Stepping.{paper};
+use notation::Answer;
 
-// What a conversion of lent channels answers.
-pub enum Conversion {
-    Done,
-    // The lent lengths are unequal, and nothing was changed.
+// What an op's own step answers.
+pub enum Stepping {
+    // The op gives this width.
+    Done { width: u8 },
+    // Refusal 4: the lent lengths are unequal, and nothing was changed.
     Unequal,
+}
+
+// The paper's answer.
+pub fn paper(stepping: Stepping) -> Answer
+    ensures { λ r. ⌜ r ≡ paper stepping ⌝ }
+{
+    match stepping {
+        Stepping::Done { width } => Answer {
+            number: 0,
+            position: 0,
+            width,
+        },
+        Stepping::Unequal => Answer {
+            number: 4,
+            position: 0,
+            width: 0,
+        },
+    }
 }
 
 pub fn same_lengths(a: usize, b: usize, c: usize) -> bool

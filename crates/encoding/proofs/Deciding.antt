@@ -2,10 +2,9 @@
 -- A value is read back from its number and its points, so that those decide it.
 use Prim.Native.Nat.{ℕ, zero, suc}
 use mathlib.Core.Path.{_≡_, refl, ap, sym, _∙_}
-use mathlib.Core.Bool.{Bool, true, false, _&&_, and-eq-true-iff, true≢false}
+use mathlib.Core.Bool.{Bool, true, false, true≢false}
 use lib.Dec.{eqb}
 use lib.IntN.{ℤ}
-use lib.Ieee.{fin}
 use borrow.Author.Tests.{eq-eqb, ne-eqb}
 use mir.Syntax.{Width}
 use mir.Val.{SFits, ofZ, toZ}
@@ -16,7 +15,8 @@ use Rattle.ciexyz.specs.declared.WhitePoint.the-variants as W
 use Rattle.ciexyz.specs.declared.Primaries.{Primaries}
 use Rattle.ciexyz.specs.declared.Primaries.the-variants as P
 use Rattle.same.specs.Same.{sameWhole}
-use Rattle.same.proofs.Deciding.{Decides, exactly, both, numbers, floats}
+use Rattle.notation.proofs.Deciding.{Decides, exactly, numbers, pairs, through}
+use Rattle.same.proofs.Deciding.{wholes}
 use Rattle.encoding.specs.Custom.{corners, customWhite, customCorners}
 use Rattle.encoding.specs.Named.{spaceNumber, sameSpace, intentNumber, sameIntent, samePoint, whiteNumber, sameWhite, sameCorners, primariesNumber, samePrimaries}
 use Rattle.encoding.specs.declared.ColourSpace.{ColourSpace}
@@ -24,24 +24,6 @@ use Rattle.encoding.specs.declared.ColourSpace.the-variants as S
 use Rattle.encoding.specs.declared.RenderingIntent.{RenderingIntent}
 use Rattle.encoding.specs.declared.RenderingIntent.the-variants as I
 use Rattle.encoding.specs.declared.custom.Corners.{Corners}
-
--- a test of what a value is read back from decides the value
-through : {A B : Type 0} {same : B → B → Bool} → Decides same → (f : A → B) (back : B → A) → ((a : A) → back (f a) ≡ a) → Decides (λ (a b : A). same (f a) (f b))
-through d f back h = record { equal = λ a b e. sym (h a) ∙ ap back (d .equal (f a) (f b) e) ∙ h b; itself = λ a. d .itself (f a) }
-
--- two tests decide a pair
-pairs : {A B : Type 0} {s : A → A → Bool} {t : B → B → Bool} → Decides s → Decides t → Decides (λ (x y : A × B). s (x .0) (y .0) && t (x .1) (y .1))
-pairs {s = s} {t} d e = record {
-  equal = λ x y h. let k = and-eq-true-iff (s (x .0) (y .0)) (t (x .1) (y .1)) .0 h in rw (d .equal (x .0) (y .0) (k .0), e .equal (x .1) (y .1) (k .1));
-  itself = λ x. both (d .itself (x .0)) (e .itself (x .1));
-}
-
--- a whole number, as the exponent of a float
-wholes : Decides sameWhole
-wholes = record { equal = λ m n e. inside m n (floats .equal (fin true 0 m) (fin true 0 n) e); itself = λ n. floats .itself (fin true 0 n) }
-  where
-    inside : (m n : ℤ) → fin true 0 m ≡ fin true 0 n → m ≡ n
-    inside m n e = cc
 
 pub spaces : Decides sameSpace
 spaces = through numbers spaceNumber by back

@@ -8,7 +8,7 @@ use Rattle.encoding.specs.Equivalence.{equivalent, Equivalent, both-xyb,
 use Rattle.encoding.specs.declared.ColourSpace.the-variants as S
 use Rattle.encoding.specs.declared.EnumColourEncoding.{EnumColourEncoding}
 use Rattle.encoding.proofs.SameValues.{same-space-exactly, same-intent-exactly, same-white-exactly, same-primaries-exactly}
-use Rattle.encoding.proofs.Tests.{both-exactly, either-exactly}
+use Rattle.notation.proofs.Tests.{both-exactly, either-exactly}
 
 module _ (me other : EnumColourEncoding) where
   pub equivalent-exactly : (equivalent me other ≡ true) ↔ Equivalent me other

@@ -5,4 +5,3 @@ pub mod OutOfRange
 pub mod Determined
 -- their laws
 pub mod Deciding
-pub mod Tests

@@ -12,14 +12,14 @@ use Rattle.ciexyz.specs.declared.WhitePoint.{WhitePoint}
 use Rattle.ciexyz.specs.declared.WhitePoint.the-variants as W
 use Rattle.ciexyz.specs.declared.Primaries.{Primaries}
 use Rattle.ciexyz.specs.declared.Primaries.the-variants as P
-use Rattle.same.specs.Same.{gammaOf}
+use Rattle.parts.specs.Curves.{gammaOf}
 use Rattle.op.specs.declared.Curve.{Curve}
 use Rattle.op.specs.declared.Curve.the-variants as C
 use Rattle.encoding.specs.Custom.{corners, customWhite, customCorners}
 use Rattle.encoding.specs.Ranges.{coordinateInRange, pointInRange, cornersInRange, gammaInRange, inRange, Within, Inside, Outside, white, red, green, blue, gamma}
 use Rattle.encoding.specs.declared.EnumColourEncoding.{EnumColourEncoding}
 use Rattle.encoding.specs.declared.custom.Corners.{Corners}
-use Rattle.encoding.proofs.Tests.{both-exactly, fails-exactly, one-fails}
+use Rattle.notation.proofs.Tests.{both-exactly, fails-exactly, one-fails}
 
 at-most : (a b : ℤ) → (leZ a b ≡ true) ↔ (a ≤ℤ b)
 at-most a b = (λ e. record { le = rw e tt }, λ h. by (leZ a b) (h .le))

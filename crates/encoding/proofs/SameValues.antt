@@ -5,7 +5,7 @@ use mathlib.Core.Bool.{true}
 use mathlib.Core.Logic.{_↔_}
 use Rattle.ciexyz.specs.declared.WhitePoint.{WhitePoint}
 use Rattle.ciexyz.specs.declared.Primaries.{Primaries}
-use Rattle.same.proofs.Deciding.{exactly}
+use Rattle.notation.proofs.Deciding.{exactly}
 use Rattle.encoding.specs.Named.{sameSpace, sameIntent, sameWhite, samePrimaries}
 use Rattle.encoding.specs.declared.ColourSpace.{ColourSpace}
 use Rattle.encoding.specs.declared.RenderingIntent.{RenderingIntent}

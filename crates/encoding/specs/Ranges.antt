@@ -8,7 +8,7 @@ use lib.Dec.{leb}
 use Rattle.ciexyz.specs.declared.Millionths.{Millionths}
 use Rattle.ciexyz.specs.declared.WhitePoint.the-variants as W
 use Rattle.ciexyz.specs.declared.Primaries.the-variants as P
-use Rattle.same.specs.Same.{gammaOf}
+use Rattle.parts.specs.Curves.{gammaOf}
 use Rattle.op.specs.declared.Curve.the-variants as C
 use Rattle.encoding.specs.Custom.{customWhite, customCorners}
 use Rattle.encoding.specs.declared.EnumColourEncoding.{EnumColourEncoding}

@@ -1,7 +1,7 @@
 // Whether every custom coordinate and `g` of an encoding is in its range, used or not.
 ghost use mathlib.Core.Path.{_≡_};
 ghost use Rattle.encoding.specs.Ranges.{coordinateInRange, pointInRange, cornersInRange, gammaInRange, inRange};
-ghost use Rattle.same.specs.Same.{gammaOf};
+ghost use Rattle.parts.specs.Curves.{gammaOf};
 use crate::EnumColourEncoding;
 use crate::custom::Corners;
 use crate::custom::custom_corners;

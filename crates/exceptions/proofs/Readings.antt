@@ -10,12 +10,14 @@ use Rattle.notation.specs.F32.{bits, zero}
 use Rattle.ciexyz.specs.declared.WhitePoint.{WhitePoint}
 use Rattle.ciexyz.specs.declared.WhitePoint.the-variants as W
 use Rattle.ciexyz.specs.declared.Primaries.the-variants as P
-use Rattle.op.specs.Lists.{opsOf}
+use Rattle.list.specs.Lists.{opsOf}
 use Rattle.op.specs.declared.Curve.{Curve}
 use Rattle.op.specs.declared.Curve.the-variants as C
-use Rattle.same.specs.Same.{kindOf}
-use Rattle.width.specs.Answer.{Answer, answer, paper}
-use Rattle.width.specs.Check.{checkOf}
+use Rattle.parts.specs.Parts.{kindOf}
+use Rattle.notation.specs.Answers.{answer}
+use Rattle.notation.specs.declared.Answer.{Answer}
+use Rattle.list.specs.Answer.{paper}
+use Rattle.list.specs.Check.{checkOf}
 use Rattle.encoding.specs.declared.ColourSpace.{ColourSpace}
 use Rattle.encoding.specs.declared.ColourSpace.the-variants as S
 use Rattle.encoding.specs.declared.RenderingIntent.{RenderingIntent}
@@ -23,7 +25,8 @@ use Rattle.encoding.specs.declared.RenderingIntent.the-variants as I
 use Rattle.encoding.specs.declared.EnumColourEncoding.{EnumColourEncoding}
 use Rattle.encoding.specs.declared.ColourEncoding.the-variants as E
 use Rattle.encoding.specs.declared.Settings.{Settings}
-use Rattle.planner.specs.Planning.{numberOf, plannedOf}
+use Rattle.planner.specs.Planning.{plannedOf}
+use Rattle.planner.specs.Planning as Planner
 
 -- what is read of a plan; the kinds are those of 01's plan block
 pub record Reading : Type 0 where
@@ -50,7 +53,7 @@ at intensity from-pq = record {
 abbrev read : EnumColourEncoding → EnumColourEncoding → Settings → Reading
 read source target settings =
     let planned = plannedOf (E.Enum source) (E.Enum target) settings in
-    reading (numberOf (planned .answer)) (map kindOf (opsOf (planned .plan))) (paper (checkOf (planned .plan)))
+    reading (Planner.paper (planned .answer) .number) (map kindOf (opsOf (planned .plan))) (paper (checkOf (planned .plan)))
 
 abbrev rgb : EnumColourEncoding
 rgb = side S.Rgb W.D65 C.Linear I.Relative

@@ -1,22 +1,13 @@
 -- The plans that do not pass the width check (demand 3): as a test, and in words.
-use Prim.Native.Nat.{ℕ}
 use mathlib.Core.Path.{_≡_}
 use mathlib.Core.Bool.{Bool, _&&_, _||_, not}
 use mathlib.Core.Logic.{_⊎_}
-use mathlib.Core.Option.{Option, none, some}
-use lib.Dec.{eqb}
-use Rattle.notation.specs.Choice.{if_then_else_}
 use Rattle.same.specs.Same.{sameCurve}
 use Rattle.op.specs.declared.Curve.the-variants as C
-use Rattle.width.specs.Answer.{Answer}
 use Rattle.encoding.specs.Named.{sameSpace, sameIntent, sameWhite}
 use Rattle.encoding.specs.declared.ColourSpace.the-variants as S
 use Rattle.encoding.specs.declared.RenderingIntent.the-variants as I
 use Rattle.encoding.specs.declared.EnumColourEncoding.{EnumColourEncoding}
-
--- the end width that an answer of the check tells; none where the list does not pass
-abbrev pub endOf : Answer → Option ℕ
-endOf a = if eqb (a .number) 0 then some (a .width) else none
 
 -- ---- the test: the source is Grey with Hlg; or it is Grey with Perceptual intent, and colour space or white point changes;
 -- or the target is Grey with Hlg

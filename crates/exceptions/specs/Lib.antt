@@ -1,2 +1,2 @@
--- Which plans do not pass the width check, and the end width that an answer of the check tells.
+-- Which plans do not pass the width check.
 pub mod Exceptions

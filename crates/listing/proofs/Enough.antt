@@ -9,19 +9,19 @@ use lib.Dec.{eqb, ltb}
 use lib.ListN.{length, length-append}
 use Rattle.notation.specs.Choice.{if_then_else_}
 use Rattle.notation.specs.Text.{ascii}
-use Rattle.op.specs.Lists.{opsOf, Lawful}
+use Rattle.list.specs.Lists.{opsOf, Lawful}
 use Rattle.op.specs.declared.Op.{Op}
 use Rattle.op.specs.declared.Op.the-variants as O
-use Rattle.op.specs.declared.Plan.{Plan}
-use Rattle.op.proofs.Walk.{count-ops}
-use Rattle.width.specs.Check.{checkOf}
-use Rattle.width.specs.declared.Verdict.{Verdict}
-use Rattle.width.specs.declared.Verdict.the-variants.{Passes, Malformed, Misfit}
-use Rattle.block.specs.Block.{number, readOf}
+use Rattle.list.specs.declared.Plan.{Plan}
+use Rattle.list.proofs.Walk.{count-ops}
+use Rattle.list.specs.Check.{checkOf}
+use Rattle.list.specs.declared.Verdict.{Verdict}
+use Rattle.list.specs.declared.Verdict.the-variants.{Passes, Malformed, Misfit}
+use Rattle.block.specs.Block.{paper, readOf}
 use Rattle.block.specs.declared.Block.{Block}
 use Rattle.listing.specs.Words.{nameOf, digit, decimal, counted, ending}
 use Rattle.listing.specs.Listing.{firstLine, opLine, opLines, lines, listText, planText, blockText, textOf}
-use Rattle.listing.proofs.Small.{passes-lawful, misfit-lawful}
+use Rattle.list.proofs.Bounds.{passes-lawful, misfit-lawful}
 
 either : {A : Type 0} (P : A → Type 0) (b : Bool) {x y : A} → P x → P y → P (if b then x else y)
 either P true p q = p
@@ -61,7 +61,7 @@ first-short start count =
     omega (arith, length-append (counted (ascii "start ") start) (ending (ascii " ops ") count), counted-short (ascii "start ") start, ending-short (ascii " ops ") count)
 
 module _ (p : Plan) where
-  all-short : Lawful (p .start) (p .count) → length (lines p) ≤ 720
+  all-short : Lawful p → length (lines p) ≤ 720
   all-short l =
       omega (arith, length-append (firstLine (p .start) (p .count)) (opLines 0 (opsOf p)), first-short (p .start) (p .count), lines-short 0 (opsOf p), count-ops (p .count) (p .ops), l .1)
 
@@ -75,7 +75,7 @@ plan-short p = list-short p (checkOf p) refl
 
 block-short : (b : Block) → length (blockText b) ≤ 736
 block-short b =
-    either (λ (s : List ℕ). length s ≤ 736) (eqb (number (b .answer)) 0) (plan-short (b .plan)) (omega (arith, ending-short (ascii "refused ") (number (b .answer))))
+    either (λ (s : List ℕ). length s ≤ 736) (eqb (paper (b .answer) .number) 0) (plan-short (b .plan)) (omega (arith, ending-short (ascii "refused ") (paper (b .answer) .number)))
 
 pub short : (bytes : List ℕ) → length (textOf bytes) ≤ 736
 short bytes = block-short (readOf bytes)

@@ -1,4 +1,3 @@
--- What `planlist` prints, and how it stands in a buffer.
+-- What `planlist` prints.
 pub mod Words
 pub mod Listing
-pub mod Buffer

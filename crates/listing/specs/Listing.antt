@@ -4,13 +4,13 @@ use mathlib.Core.List.{List, [], _∷_, _++_}
 use lib.Dec.{eqb}
 use Rattle.notation.specs.Choice.{if_then_else_}
 use Rattle.notation.specs.Text.{ascii}
-use Rattle.op.specs.Lists.{opsOf}
+use Rattle.list.specs.Lists.{opsOf}
 use Rattle.op.specs.declared.Op.{Op}
-use Rattle.op.specs.declared.Plan.{Plan}
-use Rattle.width.specs.Check.{checkOf}
-use Rattle.width.specs.declared.Verdict.{Verdict}
-use Rattle.width.specs.declared.Verdict.the-variants.{Passes, Malformed, Misfit}
-use Rattle.block.specs.Block.{number, readOf}
+use Rattle.list.specs.declared.Plan.{Plan}
+use Rattle.list.specs.Check.{checkOf}
+use Rattle.list.specs.declared.Verdict.{Verdict}
+use Rattle.list.specs.declared.Verdict.the-variants.{Passes, Malformed, Misfit}
+use Rattle.block.specs.Block.{paper, readOf}
 use Rattle.block.specs.declared.Block.{Block}
 use Rattle.listing.specs.Words.{nameOf, decimal, counted, ending}
 
@@ -47,7 +47,7 @@ planText p = listText p (checkOf p)
 
 -- "a read refusal prints `refused N` alone"
 abbrev pub blockText : Block → List ℕ
-blockText b = if eqb (number (b .answer)) 0 then planText (b .plan) else refusal (number (b .answer))
+blockText b = if eqb (paper (b .answer) .number) 0 then planText (b .plan) else refusal (paper (b .answer) .number)
 
 -- what is printed for these bytes
 abbrev pub textOf : List ℕ → List ℕ

@@ -2,16 +2,16 @@
 ghost use mathlib.Core.List.{map};
 ghost use Prim.Native.Nat.{_≤_, _<_};
 ghost use lib.ListN.{take};
-ghost use Rattle.op.specs.Lists.{opOf, Lawful};
+ghost use Rattle.list.specs.Lists.{opOf, Lawful};
 ghost use Rattle.listing.specs.Listing.{firstLine, opLine, opLines, lines, planText, textOf};
-ghost use Rattle.listing.specs.Buffer.{Room, Put, Listed};
+ghost use Rattle.buffer.specs.Buffer.{Room, Put, Listed};
 
 mod words; // words.rt: names and numbers
 
+use list::Plan;
+use list::Slot;
+use list::Verdict;
 use op::Op;
-use op::Plan;
-use op::Slot;
-use width::Verdict;
 use words::put;
 use words::put_counted;
 use words::put_ending;
@@ -57,7 +57,7 @@ fn put_op_lines(out: &mut [u8], at: usize, slots: [Slot; 32], count: usize) -> u
 // All lines but the last.
 fn put_lines(out: &mut [u8], plan: Plan) -> usize
     requires { ⌜ Room (now out) 0 (lines plan) ⌝ }
-    requires { ⌜ Lawful (plan .start) (plan .count) ⌝ }
+    requires { ⌜ Lawful plan ⌝ }
     ensures { λ r. ⌜ Put (now (out .entry)) 0 (lines plan) (now (out .exit)) r ⌝ }
 {
     let start = plan.start;
@@ -71,7 +71,7 @@ fn put_list(out: &mut [u8], plan: Plan) -> usize
     requires { ⌜ Room (now out) 0 (planText plan) ⌝ }
     ensures { λ r. ⌜ Put (now (out .entry)) 0 (planText plan) (now (out .exit)) r ⌝ }
 {
-    match width::check(plan) {
+    match list::check(plan) {
         Verdict::Passes { width } => {
             let next = put_lines(out, plan);
             put_ending(out, next, b"end ", width as usize)
@@ -90,7 +90,7 @@ fn put_text(out: &mut [u8], bytes: &[u8]) -> usize
 {
     let block = block::read(bytes);
     let answer = block.answer;
-    let number = block::number(answer);
+    let number = block::paper(answer).number;
     if number == 0 {
         let plan = block.plan;
         return put_list(out, plan);

@@ -1,14 +1,14 @@
 // What the lines are made of, each put into a buffer from a place on; the answer is the place after it.
 ghost use Prim.Native.Nat.{_<_};
 ghost use Rattle.listing.specs.Words.{nameOf, decimal, counted, ending};
-ghost use Rattle.listing.specs.Buffer.{Room, Put};
+ghost use Rattle.buffer.specs.Buffer.{Room, Put};
 use op::Op;
 
 pub(crate) fn put(out: &mut [u8], at: usize, text: &[u8]) -> usize
     requires { ⌜ Room (now out) at (now text) ⌝ }
     ensures { λ r. ⌜ Put (now (out .entry)) at (now (text .entry)) (now (out .exit)) r ⌝ }
 {
-    at + bytes::copy(text, &mut out[at..])
+    buffer::put(out, at, text)
 }
 
 // A number below a hundred, in decimal.

@@ -7,7 +7,7 @@ use Rattle.ciexyz.specs.declared.Mat3.{Mat3}
 use Rattle.op.specs.Table.{matrix}
 use Rattle.op.specs.declared.Op.{Op}
 use Rattle.op.specs.declared.Op.the-variants as O
-use Rattle.width.specs.Fits.{Fits, more}
+use Rattle.list.specs.Fits.{Fits, more}
 use Rattle.merge.specs.Groups.{Group, run, other, grouped, ungrouped}
 use Rattle.merge.specs.Merge.{oneOp, mergeOps}
 use Rattle.merge.proofs.Grouping.{nothing-lost}

@@ -6,7 +6,7 @@ use Rattle.ciexyz.specs.declared.Mat3.{Mat3}
 use Rattle.op.specs.declared.Op.{Op}
 use Rattle.op.specs.declared.Op.the-variants as O
 use Rattle.merge.specs.Groups.{Group, run, other, joinedTo, grouped, ungrouped, Longest, end, op-by-itself, last-run, run-before-op}
-use Rattle.merge.proofs.Merging.{Kind, a-matrix, no-matrix, kind, run-first}
+use Rattle.merge.proofs.Front.{Kind, a-matrix, no-matrix, kind, run-first}
 
 -- the groups, one after the other, are the list
 pub nothing-lost : (os : List Op) → ungrouped (grouped os) ≡ os

@@ -3,30 +3,32 @@
 use Prim.Native.Nat.{ℕ}
 use mathlib.Core.Path.{_≡_}
 use native.Mathlib.Omega.{arith}
-use Rattle.op.specs.Lists.{opsOf, planOf, Lawful}
-use Rattle.op.specs.declared.Plan.{Plan}
-use Rattle.op.proofs.Building.{ops-of}
-use Rattle.op.proofs.Formed.{formed-exactly, unformed-exactly, not-both}
-use Rattle.width.specs.Answer.{Answer, answer, paper, Alike}
-use Rattle.width.specs.Check.{checkOf}
-use Rattle.width.specs.Fits.{Fits, FailsAt}
-use Rattle.width.proofs.Judging.{Judged, malformed, passing, failing, judged, is-malformed, is-passing, is-failing, apart}
+use Rattle.list.specs.Lists.{opsOf, planOf, Lawful}
+use Rattle.list.specs.declared.Plan.{Plan}
+use Rattle.list.proofs.Building.{ops-of}
+use Rattle.list.proofs.Formed.{lawful-exactly, unlawful-exactly, never-both}
+use Rattle.notation.specs.Answers.{answer, Alike}
+use Rattle.notation.specs.declared.Answer.{Answer}
+use Rattle.list.specs.Answer.{paper}
+use Rattle.list.specs.Check.{checkOf}
+use Rattle.list.specs.Fits.{Fits, FailsAt}
+use Rattle.list.proofs.Judging.{Judged, malformed, passing, failing, judged, is-malformed, is-passing, is-failing, apart}
 use Rattle.merge.specs.Merge.{mergeOps, mergeOf}
 use Rattle.merge.proofs.Fitting.{fits-merged}
-use Rattle.merge.proofs.Merging.{still-lawful}
+use Rattle.merge.proofs.Front.{still-lawful}
 
 -- the check answers the merged list as it answered the list, but for the position
-pub merge-keeps : (p : Plan) → Alike (paper (checkOf (mergeOf p))) (paper (checkOf p))
+pub merge-keeps : (p : Plan) → Alike (paper (checkOf (mergeOf p .plan))) (paper (checkOf p))
 merge-keeps p = by (judged p)
   where
-    alike : {n i j w : ℕ} → paper (checkOf (mergeOf p)) ≡ answer n i w → paper (checkOf p) ≡ answer n j w → Alike (paper (checkOf (mergeOf p))) (paper (checkOf p))
+    alike : {n i j w : ℕ} → paper (checkOf (mergeOf p .plan)) ≡ answer n i w → paper (checkOf p) ≡ answer n j w → Alike (paper (checkOf (mergeOf p .plan))) (paper (checkOf p))
     alike e f = (rw (e, f), rw (e, f))
 
     q : Plan
     q = planOf (p .start) (mergeOps (opsOf p))
 
-    of-q : {a : Answer} → Lawful (p .start) (p .count) → paper (checkOf q) ≡ a → paper (checkOf (mergeOf p)) ≡ a
-    of-q l e = rw (formed-exactly (p .start) (p .count) .1 l) e
+    of-q : {a : Answer} → Lawful p → paper (checkOf q) ≡ a → paper (checkOf (mergeOf p .plan)) ≡ a
+    of-q l e = rw (lawful-exactly p .1 l) e
 
     fitting : {v : ℕ} → Fits (p .start) (opsOf p) v → Fits (q .start) (opsOf q) v
     fitting f = rw (ops-of (p .start) (mergeOps (opsOf p))) (fits-merged (opsOf p) .0 f)
@@ -34,12 +36,12 @@ merge-keeps p = by (judged p)
     fitted : {v : ℕ} → Fits (q .start) (opsOf q) v → Fits (p .start) (opsOf p) v
     fitted f = fits-merged (opsOf p) .1 (rw (ops-of (p .start) (mergeOps (opsOf p))) at f)
 
-    failed : {i : ℕ} → Lawful (p .start) (p .count) → FailsAt (p .start) (opsOf p) i → Judged q → Alike (paper (checkOf (mergeOf p))) (paper (checkOf p))
-    failed l f (malformed u) = absurd (not-both (q .start) (q .count) (still-lawful p l) u)
+    failed : {i : ℕ} → Lawful p → FailsAt (p .start) (opsOf p) i → Judged q → Alike (paper (checkOf (mergeOf p .plan))) (paper (checkOf p))
+    failed l f (malformed u) = absurd (never-both q (still-lawful p l) u)
     failed l f (passing k g) = apart (is-passing p l (fitted g)) (is-failing p l f) (omega arith)
     failed l f (failing k g) = alike (of-q l (is-failing q k g)) (is-failing p l f)
 
-    by : Judged p → Alike (paper (checkOf (mergeOf p))) (paper (checkOf p))
-    by (malformed u) = alike {i = 0} (rw (unformed-exactly (p .start) (p .count) .1 u)) (is-malformed p u)
+    by : Judged p → Alike (paper (checkOf (mergeOf p .plan))) (paper (checkOf p))
+    by (malformed u) = alike {i = 0} (rw (unlawful-exactly p .1 u)) (is-malformed p u)
     by (passing l f) = alike (of-q l (is-passing q (still-lawful p l) (fitting f))) (is-passing p l f)
     by (failing l f) = failed l f (judged q)

@@ -11,7 +11,7 @@ use Rattle.op.specs.declared.Op.{Op}
 use Rattle.op.specs.declared.Op.the-variants as O
 use Rattle.merge.specs.Groups.{Group, matrixOf, ungrouped, Longest, end, op-by-itself, last-run, run-before-op}
 use Rattle.merge.specs.Merge.{runProduct, oneOp, mergeOps}
-use Rattle.merge.proofs.Merging.{absorbed, kept, kept-after}
+use Rattle.merge.proofs.Front.{absorbed, kept, kept-after}
 
 run-absorbed : (m : Mat3) (ms : List Mat3) (bs os : List Op) → mergeOps ((map O.Matrix (m ∷ ms) ++ bs) ++ os) ≡ mergeOps (O.Matrix (runProduct m ms) ∷ bs ++ os)
 run-absorbed m [] bs os = refl

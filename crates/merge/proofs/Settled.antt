@@ -7,15 +7,15 @@ use mathlib.Core.List.{List, [], _∷_, _++_, append-nil}
 use native.Mathlib.Omega.{arith}
 use lib.ListN.{length}
 use Rattle.ciexyz.specs.declared.Mat3.{Mat3}
-use Rattle.op.specs.Lists.{opsOf, wellFormed}
+use Rattle.list.specs.Lists.{opsOf, wellFormed, lawful}
 use Rattle.op.specs.declared.Op.{Op}
 use Rattle.op.specs.declared.Op.the-variants as O
-use Rattle.op.specs.declared.Plan.{Plan}
-use Rattle.op.proofs.Building.{ops-of}
-use Rattle.op.proofs.Formed.{formed-exactly}
+use Rattle.list.specs.declared.Plan.{Plan}
+use Rattle.list.proofs.Building.{ops-of}
+use Rattle.list.proofs.Formed.{formed-exactly, lawful-exactly}
 use Rattle.merge.specs.Merge.{mergeOps, mergeOf}
 use Rattle.merge.proofs.Grouping.{nothing-lost, runs-longest}
-use Rattle.merge.proofs.Merging.{short, still-lawful}
+use Rattle.merge.proofs.Front.{short, still-lawful}
 use Rattle.merge.proofs.Regrouping.{first-merged, no-neighbours}
 
 -- no two matrices are neighbours
@@ -31,20 +31,20 @@ pub ops-again : (os : List Op) → mergeOps (mergeOps os) ≡ mergeOps os
 ops-again os = ap mergeOps (sym (append-nil (mergeOps os))) ∙ first-part os [] ∙ ap mergeOps (append-nil os)
 
 -- the merged list is no longer
-pub merged-count : (p : Plan) → mergeOf p .count ≤ p .count
-merged-count p = by (wellFormed (p .start) (p .count)) refl
+pub merged-count : (p : Plan) → mergeOf p .plan .count ≤ p .count
+merged-count p = by (lawful p) refl
   where
-    by : (b : Bool) → wellFormed (p .start) (p .count) ≡ b → mergeOf p .count ≤ p .count
+    by : (b : Bool) → lawful p ≡ b → mergeOf p .plan .count ≤ p .count
     by true e = rw e (short p)
     by false e = rw e (omega arith)
 
 -- merging again gives the same list
-pub merged-again : (p : Plan) → mergeOf (mergeOf p) ≡ mergeOf p
-merged-again p = by (wellFormed (p .start) (p .count)) refl
+pub merged-again : (p : Plan) → mergeOf (mergeOf p .plan) ≡ mergeOf p
+merged-again p = by (lawful p) refl
   where
-    again : wellFormed (p .start) (p .count) ≡ true → wellFormed (p .start) (length (mergeOps (opsOf p))) ≡ true
-    again e = formed-exactly (p .start) (length (mergeOps (opsOf p))) .1 (still-lawful p (formed-exactly (p .start) (p .count) .0 e))
+    again : lawful p ≡ true → wellFormed (p .start) (length (mergeOps (opsOf p))) ≡ true
+    again e = formed-exactly (p .start) (length (mergeOps (opsOf p))) .1 (still-lawful p (lawful-exactly p .0 e))
 
-    by : (b : Bool) → wellFormed (p .start) (p .count) ≡ b → mergeOf (mergeOf p) ≡ mergeOf p
+    by : (b : Bool) → lawful p ≡ b → mergeOf (mergeOf p .plan) ≡ mergeOf p
     by true e = rw (e, again e, ops-of (p .start) (mergeOps (opsOf p)), ops-again (opsOf p))
     by false e = rw e

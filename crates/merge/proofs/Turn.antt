@@ -1,7 +1,7 @@
 -- One turn of the merging loop, from what the calls in it answer; and its end.
 -- What is held and what remains merge to what the turn puts out and what it leaves.
 use Prim.Native.Nat.{ℕ, _+_, _≤_, _<_}
-use mathlib.Core.Path.{_≡_, refl, sym}
+use mathlib.Core.Path.{_≡_, refl, sym, _∙_}
 use mathlib.Core.List.{List, [], _∷_, _++_, map}
 use mathlib.Core.Option.{none}
 use native.Mathlib.Omega.{arith}
@@ -9,20 +9,20 @@ use types.Run.{OneOf, miss}
 use denote.Enum.Declared.{tagOf}
 use lib.ListN.{length, take, drop, getD}
 use Rattle.op.proofs.Op as Op-kind
-use Rattle.op.specs.Lists.{opOf, planOf, pushed, appended}
+use Rattle.list.specs.Lists.{opOf, planOf, Formed, appended}
 use Rattle.op.specs.declared.Op.{Op}
 use Rattle.op.specs.declared.Op.the-variants as O
-use Rattle.op.specs.declared.Slot.{Slot}
-use Rattle.op.specs.declared.Plan.{Plan}
-use Rattle.op.proofs.Walk.{count-ops, next-op, no-more}
-use Rattle.op.proofs.Building.{appended-append, appends}
+use Rattle.list.specs.declared.Slot.{Slot}
+use Rattle.list.specs.declared.Plan.{Plan}
+use Rattle.list.proofs.Walk.{count-ops, next-op, no-more}
+use Rattle.list.proofs.Building.{appended-append, appends}
 use Rattle.ciexyz.specs.declared.Mat3.{Mat3}
 use Rattle.merge.specs.Groups.{matrixOf}
 use Rattle.merge.specs.Merge.{mergeOps}
 use Rattle.merge.specs.Steps.{joinedBy, held}
 use Rattle.merge.specs.declared.Run.{Run}
 use Rattle.merge.specs.declared.Run.the-variants.{Empty, Product}
-use Rattle.merge.proofs.Merging.{Kind, a-matrix, no-matrix, kind, absorbed, kept, kept-after, no-longer}
+use Rattle.merge.proofs.Front.{Kind, a-matrix, no-matrix, kind, absorbed, kept, kept-after, no-longer}
 
 -- the variants but Matrix, by their places in the enum
 abbrev others : List ℕ
@@ -50,15 +50,17 @@ module _ (n : ℕ) (ss : List Slot) (i : ℕ) (out : Plan) (r : Run) where
         → appended out′ (mergeOps (held r′ ++ drop (i + 1) (map opOf (take n ss)))) ≡ appended out (mergeOps (held r ++ drop i (map opOf (take n ss))))
     matrix-turn {m} a b s t = rw (next-op n ss i d h k, a, s, t, b, join r m (drop (i + 1) (map opOf (take n ss))))
 
-    pub other-turn : {mid p : Plan} → OneOf others (tagOf Op-kind.the-type (opOf (getD ss i d))) → mid ≡ appended out (held r) → p ≡ pushed mid (opOf (getD ss i d)) → out′ ≡ p → r′ ≡ Empty
+    pub other-turn : {mid p : Plan} → OneOf others (tagOf Op-kind.the-type (opOf (getD ss i d))) → mid ≡ appended out (held r) → p ≡ appended mid (opOf (getD ss i d) ∷ []) → out′ ≡ p → r′ ≡ Empty
         → appended out′ (mergeOps (held r′ ++ drop (i + 1) (map opOf (take n ss)))) ≡ appended out (mergeOps (held r ++ drop i (map opOf (take n ss))))
     other-turn v a b s t =
         let os = drop (i + 1) (map opOf (take n ss)) in
-        rw (next-op n ss i d h k, end-run r (opOf (getD ss i d)) (stays (kind (opOf (getD ss i d))) v) os, s, t, b, a) (sym (appended-append out (held r) (opOf (getD ss i d) ∷ mergeOps os)))
+        rw (next-op n ss i d h k, end-run r (opOf (getD ss i d)) (stays (kind (opOf (getD ss i d))) v) os, s, t, b, a) (appended-append (appended out (held r)) (opOf (getD ss i d) ∷ []) (mergeOps os) ∙ appended-append out (held r) (opOf (getD ss i d) ∷ mergeOps os))
 
   pub ends : n ≤ i → appended out (held r) ≡ appended out (mergeOps (held r ++ drop i (map opOf (take n ss))))
   ends h = rw (no-more n ss i h, last-run r)
 
--- a list of at most 32 ops has room for the merged one
-pub room : (s n : ℕ) (ss : List Slot) → n ≤ 32 → appended (planOf s []) (mergeOps (map opOf (take n ss))) ≡ planOf s (mergeOps (map opOf (take n ss)))
-room s n ss h = appends s [] (mergeOps (map opOf (take n ss))) (omega (arith, count-ops n ss, no-longer (map opOf (take n ss))))
+-- a lawful list has room for the merged one
+pub room : (s n : ℕ) (ss : List Slot) → Formed s n → appended (planOf s []) (mergeOps (map opOf (take n ss))) ≡ planOf s (mergeOps (map opOf (take n ss)))
+room s n ss f =
+    let h = f .1 in
+    appends s [] (mergeOps (map opOf (take n ss))) (f .0, omega (arith, count-ops n ss, no-longer (map opOf (take n ss))))

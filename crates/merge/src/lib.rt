@@ -1,15 +1,28 @@
 // Merging: each longest run of matrices becomes one.
 ghost use mathlib.Core.Path.{_≡_};
 ghost use mathlib.Core.List.{map};
-ghost use Prim.Native.Nat.{_≤_};
 ghost use lib.ListN.{take};
-ghost use Rattle.op.specs.Lists.{opOf, planOf, appended};
-ghost use Rattle.merge.specs.Merge.{mergeOps, mergeOf};
+ghost use Rattle.list.specs.Lists.{opOf, planOf, Formed, appended};
+ghost use Rattle.merge.specs.Merge.{mergeOps, paper, mergeOf};
 ghost use Rattle.merge.specs.Steps.{joinedBy, held};
 use ciexyz::Mat3;
+use list::Plan;
+use list::Slot;
+use notation::Answer;
 use op::Op;
-use op::Plan;
-use op::Slot;
+
+// What merging answers.
+pub enum Merging {
+    Done,
+    // Refusal 10: the start width is not 1 or 3, or the count is above 32.
+    Malformed,
+}
+
+// A refused list is the empty list with width 0.
+pub struct Merged {
+    pub answer: Merging,
+    pub plan: Plan,
+}
 
 // The product of the matrices just before an op.
 enum Run {
@@ -32,16 +45,16 @@ fn ended(out: Plan, run: Run) -> Plan
     ensures { λ r. ⌜ r ≡ appended out (held run) ⌝ }
 {
     match run {
-        Run::Empty => out,
-        Run::Product(p) => op::push(out, Op::Matrix(p)),
+        Run::Empty => list::kept(out),
+        Run::Product(p) => list::push(out, Op::Matrix(p)),
     }
 }
 
 fn merge_ops(slots: [Slot; 32], start: u8, count: usize) -> Plan
-    requires { ⌜ count ≤ 32 ⌝ }
+    requires { ⌜ Formed start count ⌝ }
     ensures { λ r. ⌜ r ≡ planOf start (mergeOps (map opOf (take count slots))) ⌝ }
 {
-    let mut out = op::empty(start);
+    let mut out = list::empty(start);
     let mut run = Run::Empty;
     let mut i: usize = 0;
     while i < count {
@@ -50,7 +63,7 @@ fn merge_ops(slots: [Slot; 32], start: u8, count: usize) -> Plan
         if let Op::Matrix(m) = op {
             run = joined(run, m);
         } else {
-            out = op::push(ended(out, run), op);
+            out = list::push(ended(out, run), op);
             run = Run::Empty;
         }
         i += 1;
@@ -58,15 +71,36 @@ fn merge_ops(slots: [Slot; 32], start: u8, count: usize) -> Plan
     ended(out, run)
 }
 
-// The merged list; 10 gives the empty list with width 0.
-pub fn merge(plan: Plan) -> Plan
+// The merged list, or a refusal by 10.
+pub fn merge(plan: Plan) -> Merged
     ensures { λ r. ⌜ r ≡ mergeOf plan ⌝ }
 {
+    if !list::lawful(plan) {
+        return Merged {
+            answer: Merging::Malformed,
+            plan: list::empty(0),
+        };
+    }
     let start = plan.start;
     let count = plan.count;
-    if !op::well_formed(start, count) {
-        return op::empty(0);
-    }
     let slots = plan.ops;
-    merge_ops(slots, start, count)
+    Merged {
+        answer: Merging::Done,
+        plan: merge_ops(slots, start, count),
+    }
+}
+
+// The paper's answer.
+pub fn paper(merging: Merging) -> Answer
+    ensures { λ r. ⌜ r ≡ paper merging ⌝ }
+{
+    let number = match merging {
+        Merging::Done => 0,
+        Merging::Malformed => 10,
+    };
+    Answer {
+        number,
+        position: 0,
+        width: 0,
+    }
 }

@@ -1,18 +1,18 @@
 -- The list that the stages build, and the merged one.
 -- They append at most 10 ops to an empty list, so there is room, and the start width is 1 or 3.
 use Prim.Native.Nat.{ℕ}
-use mathlib.Core.Path.{_≡_, refl, sym, _∙_}
+use mathlib.Core.Path.{_≡_, refl, _∙_}
 use mathlib.Core.Bool.{Bool, true, false}
 use mathlib.Core.List.{List, [], _++_}
 use mathlib.Core.Logic.{_⊎_, inl, inr}
 use native.Mathlib.Omega.{arith}
 use lib.ListN.{length}
 use Rattle.notation.specs.Choice.{if_then_else_}
-use Rattle.op.specs.Lists.{planOf, appended, Lawful}
+use Rattle.list.specs.Lists.{planOf, appended, Formed}
 use Rattle.op.specs.declared.Op.{Op}
-use Rattle.op.specs.declared.Plan.{Plan}
-use Rattle.op.proofs.Building.{appended-append, appends, ops-of}
-use Rattle.op.proofs.Formed.{formed-exactly}
+use Rattle.list.specs.declared.Plan.{Plan}
+use Rattle.list.proofs.Building.{appended-append, appends, ops-of}
+use Rattle.list.proofs.Formed.{formed-exactly}
 use Rattle.merge.specs.Merge.{mergeOps, mergeOf}
 use Rattle.encoding.specs.Encodings.{channelsOf}
 use Rattle.encoding.specs.Named.{sameSpace}
@@ -24,10 +24,10 @@ use Rattle.stages.proofs.Length.{at-most-ten}
 
 five : (p : Plan) (a b c d e : List Op) → appended (appended (appended (appended (appended p a) b) c) d) e ≡ appended p (a ++ (b ++ (c ++ (d ++ e))))
 five p a b c d e =
-    sym (appended-append p a (b ++ (c ++ (d ++ e)))
-    ∙ appended-append (appended p a) b (c ++ (d ++ e))
+    appended-append (appended (appended (appended p a) b) c) d e
     ∙ appended-append (appended (appended p a) b) c (d ++ e)
-    ∙ appended-append (appended (appended (appended p a) b) c) d e)
+    ∙ appended-append (appended p a) b (c ++ (d ++ e))
+    ∙ appended-append p a (b ++ (c ++ (d ++ e)))
 
 -- one channel or three
 abbrev pub wide : Bool → ℕ
@@ -48,10 +48,10 @@ module _ (source target : EnumColourEncoding) (settings : Settings) where
       ≡ planOf (channelsOf source) (stageOps source target settings)
   in-order =
       five (planOf (channelsOf source) []) (decodeOps source settings) (convertOps (decoded source) target) (toneMapOps reached target settings) (pqToHlgOps reached target settings) (curveOps reached target settings)
-      ∙ appends (channelsOf source) [] (stageOps source target settings) (omega (arith, at-most-ten source target settings))
+      ∙ appends (channelsOf source) [] (stageOps source target settings) (one-or-three source, omega (arith, at-most-ten source target settings))
 
-  pub lawful : Lawful (channelsOf source) (length (stageOps source target settings))
+  lawful : Formed (channelsOf source) (length (stageOps source target settings))
   lawful = (one-or-three source, omega (arith, at-most-ten source target settings))
 
-  pub merged : mergeOf (planOf (channelsOf source) (stageOps source target settings)) ≡ planOf (channelsOf source) (mergeOps (stageOps source target settings))
+  pub merged : mergeOf (planOf (channelsOf source) (stageOps source target settings)) .plan ≡ planOf (channelsOf source) (mergeOps (stageOps source target settings))
   merged = rw (formed-exactly (channelsOf source) (length (stageOps source target settings)) .1 lawful, ops-of (channelsOf source) (stageOps source target settings))

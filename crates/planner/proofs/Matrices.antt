@@ -3,10 +3,10 @@
 use mathlib.Core.Path.{_≡_, ap, sym, _∙_}
 use mathlib.Core.List.{List, _∷_, _++_}
 use Rattle.ciexyz.specs.declared.Mat3.{Mat3}
-use Rattle.op.specs.Lists.{opsOf}
+use Rattle.list.specs.Lists.{opsOf}
 use Rattle.op.specs.declared.Op.{Op}
 use Rattle.op.specs.declared.Op.the-variants as O
-use Rattle.op.proofs.Building.{ops-of}
+use Rattle.list.proofs.Building.{ops-of}
 use Rattle.merge.specs.Merge.{mergeOps}
 use Rattle.merge.proofs.Settled.{no-two-matrices}
 use Rattle.encoding.specs.declared.ColourEncoding.{ColourEncoding}

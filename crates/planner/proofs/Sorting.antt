@@ -1,4 +1,4 @@
--- Each pair of sides belongs to one row of 01's table, and to no other; planning answers by that row.
+-- Planning answers by the first cause in 01's order that holds, and by no other.
 -- By the three tests of two enum encodings, each of which holds exactly where its words do.
 use Prim.Native.Nat.{ℕ, zero, suc}
 use mathlib.Core.Path.{_≡_, refl, ap, sym, subst, _∙_}
@@ -6,7 +6,11 @@ use mathlib.Core.Bool.{Bool, true, false}
 use mathlib.Core.List.{List, []}
 use mathlib.Core.Logic.{_↔_, _⊎_, inl, inr, ⊎-elim}
 use native.Mathlib.Omega.{arith}
-use Rattle.op.specs.Lists.{planOf}
+use Rattle.notation.specs.Answers.{answer}
+use Rattle.notation.specs.Order.{none, this, later}
+use Rattle.notation.specs.declared.Answer.{Answer}
+use Rattle.notation.proofs.Order.{one-given}
+use Rattle.list.specs.Lists.{planOf, noList}
 use Rattle.op.specs.declared.Op.{Op}
 use Rattle.merge.specs.Merge.{mergeOps}
 use Rattle.encoding.specs.Encodings.{channelsOf}
@@ -21,15 +25,15 @@ use Rattle.stages.specs.Stages.{stageOps}
 use Rattle.encoding.proofs.SameValues.{same-space-exactly}
 use Rattle.encoding.proofs.Equivalence.{equivalent-exactly}
 use Rattle.encoding.proofs.OutOfRange.{outside-exactly}
-use Rattle.encoding.proofs.Tests.{fails-exactly, negated, either-exactly}
-use Rattle.planner.specs.Planning.{numberOf, refusal, done, outOfRange, unsupported, planned, plannedOf}
-use Rattle.planner.specs.Refusals.{IsIcc, IsOutside, Lacks, IsUnsupported}
+use Rattle.notation.proofs.Tests.{fails-exactly, negated, either-exactly}
+use Rattle.planner.specs.Planning.{paper, refusal, done, outOfRange, unsupported, planned, plannedOf}
+use Rattle.planner.specs.Refusals.{IsIcc, Lacks, Cause, Given}
 use Rattle.planner.specs.declared.Planning.{Planning}
 use Rattle.planner.specs.declared.Planned.{Planned}
 use Rattle.planner.specs.declared.Planning.the-variants.{Done, Icc, OutOfRange, Unsupported}
 
-numbered : (p q : Planning) → numberOf p ≡ numberOf q → p ≡ q
-numbered p q e = sym (back p) ∙ ap by e ∙ back q
+numbered : (p q : Planning) → paper p ≡ paper q → p ≡ q
+numbered p q e = sym (back p) ∙ ap (λ (a : Answer). by (a .number)) e ∙ back q
   where
     by : ℕ → Planning
     by zero = Done
@@ -37,7 +41,7 @@ numbered p q e = sym (back p) ∙ ap by e ∙ back q
     by (suc (suc zero)) = OutOfRange
     by (suc (suc (suc n))) = Unsupported
 
-    back : (p : Planning) → by (numberOf p) ≡ p
+    back : (p : Planning) → by (paper p .number) ≡ p
     back Done = refl
     back Icc = refl
     back OutOfRange = refl
@@ -73,53 +77,34 @@ module _ (s t : EnumColourEncoding) (settings : Settings) where
       by false false true p q r = rw (p, q, r) (lacking (fails-exactly (is-outside s t) .0 p) (fails-exactly (equivalent-exactly s t) .0 q) (lacks s t .0 r))
       by false false false p q r = rw (p, q, r) (made (fails-exactly (is-outside s t) .0 p) (fails-exactly (equivalent-exactly s t) .0 q) (fails-exactly (lacks s t) .0 r))
 
-module _ (source target : ColourEncoding) where
-  -- the rows
-  abbrev pub Row : Planning → Type 0
-  Row Icc = IsIcc source target
-  Row OutOfRange = (¬ IsIcc source target) × IsOutside source target
-  Row Unsupported = (¬ IsIcc source target) × (¬ IsOutside source target) × IsUnsupported source target
-  Row Done = (¬ IsIcc source target) × (¬ IsOutside source target) × (¬ IsUnsupported source target)
+-- what is told of a plan for these sides: why it is given; the empty list with width 0 where it is refused; merged ops in any case
+pub record Told (source target : ColourEncoding) (p : Planned) : Type 0 where
+  pub given : Given source target (p .answer)
+  pub empty : ¬ (paper (p .answer) ≡ answer 0 0 0) → p .plan ≡ noList
+  pub start : ℕ
+  pub ops : List Op
+  pub merged : p .plan ≡ planOf start (mergeOps ops)
 
-  one-row : (p q : Planning) → Row p → Row q → p ≡ q
-  one-row Icc Icc a b = refl
-  one-row Icc OutOfRange a b = absurd (b .0 a)
-  one-row Icc Unsupported a b = absurd (b .0 a)
-  one-row Icc Done a b = absurd (b .0 a)
-  one-row OutOfRange Icc a b = absurd (a .0 b)
-  one-row OutOfRange OutOfRange a b = refl
-  one-row OutOfRange Unsupported a b = absurd (b .1 (a .1))
-  one-row OutOfRange Done a b = absurd (b .1 (a .1))
-  one-row Unsupported Icc a b = absurd (a .0 b)
-  one-row Unsupported OutOfRange a b = absurd (a .1 (b .1))
-  one-row Unsupported Unsupported a b = refl
-  one-row Unsupported Done a b = absurd (b .2 (a .2))
-  one-row Done Icc a b = absurd (a .0 b)
-  one-row Done OutOfRange a b = absurd (a .1 (b .1))
-  one-row Done Unsupported a b = absurd (a .2 (b .2))
-  one-row Done Done a b = refl
-
-  -- what is told of a plan for these sides: its row; the empty list with width 0 where it is refused; merged ops in any case
-  pub record Told (p : Planned) : Type 0 where
-    pub row : Row (p .answer)
-    pub empty : ¬ (numberOf (p .answer) ≡ 0) → p .plan ≡ planOf 0 []
-    pub start : ℕ
-    pub ops : List Op
-    pub merged : p .plan ≡ planOf start (mergeOps ops)
+refused : {source target : ColourEncoding} {a : Planning} → Given source target a → Told source target (refusal a)
+refused g = record { given = g; empty = λ n. refl; start = 0; ops = []; merged = refl }
 
 told-of-enums : (s t : EnumColourEncoding) (settings : Settings) {p : Planned} → Sorted s t settings p → Told (E.Enum s) (E.Enum t) p
-told-of-enums s t settings (outside o) = record { row = (not-icc s t, o); empty = λ n. refl; start = 0; ops = []; merged = refl }
-told-of-enums s t settings (same i e) = record { row = (not-icc s t, i, λ h. h .0 e); empty = λ n. absurd (n refl); start = channelsOf s; ops = []; merged = refl }
-told-of-enums s t settings (lacking i d l) = record { row = (not-icc s t, i, (d, l)); empty = λ n. refl; start = 0; ops = []; merged = refl }
-told-of-enums s t settings (made i d l) = record { row = (not-icc s t, i, λ h. l (h .1)); empty = λ n. absurd (n refl); start = channelsOf s; ops = stageOps s t settings; merged = refl }
+told-of-enums s t settings (outside o) = refused (later (not-icc s t) (this o))
+told-of-enums s t settings (lacking i d l) = refused (later (not-icc s t) (later i (this (d, l))))
+told-of-enums s t settings (same i e) =
+    let n : ¬ Cause (E.Enum s) (E.Enum t) Unsupported = λ h. h .0 e in
+    record { given = later (not-icc s t) (later i (later n none)); empty = λ n. absurd (n refl); start = channelsOf s; ops = []; merged = refl }
+told-of-enums s t settings (made i d l) =
+    let n : ¬ Cause (E.Enum s) (E.Enum t) Unsupported = λ h. l (h .1) in
+    record { given = later (not-icc s t) (later i (later n none)); empty = λ n. absurd (n refl); start = channelsOf s; ops = stageOps s t settings; merged = refl }
 
 pub told : (source target : ColourEncoding) (settings : Settings) → Told source target (plannedOf source target settings)
-told E.IccProfile target settings = record { row = inl refl; empty = λ n. refl; start = 0; ops = []; merged = refl }
-told (E.Enum s) E.IccProfile settings = record { row = inr refl; empty = λ n. refl; start = 0; ops = []; merged = refl }
+told E.IccProfile target settings = refused (this (inl refl))
+told (E.Enum s) E.IccProfile settings = refused (this (inr refl))
 told (E.Enum s) (E.Enum t) settings = told-of-enums s t settings (sorted s t settings)
 
 module _ (source target : ColourEncoding) (settings : Settings) where
-  pub exactly : (p : Planning) → (numberOf (plannedOf source target settings .answer) ≡ numberOf p) ↔ Row source target p
+  pub exactly : (p : Planning) → (paper (plannedOf source target settings .answer) ≡ paper p) ↔ Given source target p
   exactly p =
-      let r = told source target settings .row in
-      (λ e. subst (Row source target) (numbered (plannedOf source target settings .answer) p e) r, λ q. ap numberOf (one-row source target (plannedOf source target settings .answer) p r q))
+      let g = told source target settings .given in
+      (λ e. subst (Given source target) (numbered (plannedOf source target settings .answer) p e) g, λ h. ap paper (one-given g h))

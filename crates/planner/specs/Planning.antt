@@ -3,7 +3,9 @@ use Prim.Native.Nat.{ℕ}
 use mathlib.Core.Bool.{Bool, not, _||_}
 use mathlib.Core.List.{List, []}
 use Rattle.notation.specs.Choice.{if_then_else_}
-use Rattle.op.specs.Lists.{planOf}
+use Rattle.notation.specs.Answers.{answer}
+use Rattle.notation.specs.declared.Answer.{Answer}
+use Rattle.list.specs.Lists.{planOf, noList}
 use Rattle.op.specs.declared.Op.{Op}
 use Rattle.merge.specs.Merge.{mergeOps}
 use Rattle.encoding.specs.Encodings.{channelsOf}
@@ -20,16 +22,16 @@ use Rattle.planner.specs.declared.Planning.{Planning}
 use Rattle.planner.specs.declared.Planning.the-variants.{Done, Icc, OutOfRange, Unsupported}
 use Rattle.planner.specs.declared.Planned.{Planned}
 
--- 01's numbers; "success is 0"
-abbrev pub numberOf : Planning → ℕ
-numberOf Done = 0
-numberOf Icc = 1
-numberOf OutOfRange = 2
-numberOf Unsupported = 3
+-- 01's answer; planning names no position and no width
+abbrev pub paper : Planning → Answer
+paper Done = answer 0 0 0
+paper Icc = answer 1 0 0
+paper OutOfRange = answer 2 0 0
+paper Unsupported = answer 3 0 0
 
 -- a refusal's result is "empty list, width 0"
 abbrev pub refusal : Planning → Planned
-refusal answer = record { answer = answer; plan = planOf 0 [] }
+refusal answer = record { answer = answer; plan = noList }
 
 abbrev pub done : ℕ → List Op → Planned
 done start ops = record { answer = Done; plan = planOf start ops }

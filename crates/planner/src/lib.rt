@@ -1,14 +1,15 @@
 // Planning: from two encodings and the settings to a list, or a refusal.
 ghost use mathlib.Core.Path.{_≡_};
-ghost use Rattle.op.specs.Lists.{planOf};
+ghost use Rattle.list.specs.Lists.{planOf};
 ghost use Rattle.encoding.specs.Encodings.{channelsOf};
 ghost use Rattle.stages.specs.Stages.{stageOps};
-ghost use Rattle.planner.specs.Planning.{outOfRange, unsupported, refusal, planned, plannedOf};
+ghost use Rattle.planner.specs.Planning.{paper, outOfRange, unsupported, refusal, planned, plannedOf};
 use encoding::ColourEncoding;
 use encoding::ColourSpace;
 use encoding::EnumColourEncoding;
 use encoding::Settings;
-use op::Plan;
+use list::Plan;
+use notation::Answer;
 
 pub enum Planning {
     Done,
@@ -32,7 +33,7 @@ fn unmerged(source: EnumColourEncoding, target: EnumColourEncoding, settings: Se
 {
     let current = stages::decoded(source);
     let reached = stages::converted(current, target);
-    let empty = op::empty(encoding::channels(source));
+    let empty = list::empty(encoding::channels(source));
     let linear = stages::decode(empty, source, settings);
     let converted = stages::convert(linear, current, target);
     let mapped = stages::tone_map(converted, reached, target, settings);
@@ -59,7 +60,7 @@ fn is_unsupported(source: EnumColourEncoding, target: EnumColourEncoding) -> boo
 fn refused(answer: Planning) -> Planned
     ensures { λ r. ⌜ r ≡ refusal answer ⌝ }
 {
-    let plan = op::empty(0);
+    let plan = list::empty(0);
     Planned { answer, plan }
 }
 
@@ -70,7 +71,7 @@ fn plan_enum(source: EnumColourEncoding, target: EnumColourEncoding, settings: S
         return refused(Planning::OutOfRange);
     }
     if encoding::is_equivalent(source, target) {
-        let plan = op::empty(encoding::channels(source));
+        let plan = list::empty(encoding::channels(source));
         return Planned {
             answer: Planning::Done,
             plan,
@@ -79,7 +80,8 @@ fn plan_enum(source: EnumColourEncoding, target: EnumColourEncoding, settings: S
     if is_unsupported(source, target) {
         return refused(Planning::Unsupported);
     }
-    let plan = merge::merge(unmerged(source, target, settings));
+    let merged = merge::merge(unmerged(source, target, settings));
+    let plan = merged.plan;
     Planned {
         answer: Planning::Done,
         plan,
@@ -95,5 +97,22 @@ pub fn plan(source: ColourEncoding, target: ColourEncoding, settings: Settings) 
             ColourEncoding::IccProfile => refused(Planning::Icc),
             ColourEncoding::Enum(to) => plan_enum(from, to, settings),
         },
+    }
+}
+
+// The paper's answer.
+pub fn paper(planning: Planning) -> Answer
+    ensures { λ r. ⌜ r ≡ paper planning ⌝ }
+{
+    let number = match planning {
+        Planning::Done => 0,
+        Planning::Icc => 1,
+        Planning::OutOfRange => 2,
+        Planning::Unsupported => 3,
+    };
+    Answer {
+        number,
+        position: 0,
+        width: 0,
     }
 }

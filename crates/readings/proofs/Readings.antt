@@ -12,8 +12,8 @@ use Rattle.ciexyz.specs.Matrix.{product}
 use Rattle.channels.specs.Channels.{vec}
 use Rattle.xyb.specs.Xyb.{mixed, mixedBy, rootsOf}
 use Rattle.steps.specs.Samples.{xyzOfLuma}
-use Rattle.block.specs.Fields.{floatAt, opOf}
-use Rattle.block.specs.Layout.{badField}
+use Rattle.block.specs.Fields.{firstFloat, opRead}
+use Rattle.block.specs.BadFields.{badField}
 use Rattle.readings.specs.Rows.{Hold, bitsOf, rows, samples, xyb}
 
 cbrt-0 : bits 0 ≡ cbrtOf (bits 0)
@@ -35,7 +35,7 @@ unfolding rootsOf
 xyb-is root bias intensity e = sym (ap (λ (r : Float). xybBy r (bits bias) (bits 0x437f_0000 /f bits intensity)) e)
 
 pub readings : Hold rows
-unfolding rows product mixed mixedBy fused badField floatAt opOf xyzOfLuma sum ofBits toBits mul sub div add lt isNan
+unfolding rows product mixed mixedBy fused badField firstFloat opRead xyzOfLuma sum ofBits toBits mul sub div add lt isNan
 readings = (
   refl,
   (
@@ -44,7 +44,7 @@ readings = (
       xyb-is 0 0 0x42ff_0000 cbrt-0,
       (
         xyb-is 0x4000_0000 0x4100_0000 0x437f_0000 cbrt-8,
-        (refl, (refl, (refl, (refl, (refl, (refl, (refl, (refl, tt)))))))),
+        (refl, (refl, (refl, (refl, (refl, (refl, (refl, (refl, (refl, (refl, tt)))))))))),
       ),
     ),
   ),

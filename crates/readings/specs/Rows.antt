@@ -15,18 +15,19 @@ use Rattle.ciexyz.specs.declared.Primaries.the-variants as P
 use Rattle.channels.specs.Channels.{Channels, channels, vec}
 use Rattle.xyb.specs.Xyb.{mixedLms}
 use Rattle.steps.specs.Samples.{clipOf}
-use Rattle.op.specs.Lists.{opsOf}
+use Rattle.list.specs.Lists.{opsOf}
 use Rattle.op.specs.declared.Curve.{Curve}
 use Rattle.op.specs.declared.Curve.the-variants as C
 use Rattle.op.specs.declared.Op.{Op}
 use Rattle.op.specs.declared.Op.the-variants as O
-use Rattle.op.specs.declared.Plan.{Plan}
-use Rattle.same.specs.Same.{floatsOf, kindOf}
+use Rattle.list.specs.declared.Plan.{Plan}
+use Rattle.parts.specs.Parts.{kindOf, valuesOf, floatIn}
 use Rattle.merge.specs.Merge.{mergeOps}
-use Rattle.width.specs.Answer.{Answer, paper}
-use Rattle.width.specs.Check.{checkOf}
+use Rattle.notation.specs.declared.Answer.{Answer}
+use Rattle.list.specs.Answer.{paper}
+use Rattle.list.specs.Check.{checkOf}
 use Rattle.run.specs.Run.{ranOf}
-use Rattle.encoding.specs.Icc.{iccChannels, gray}
+use Rattle.encoding.specs.Icc.{iccChannels}
 use Rattle.encoding.specs.declared.ColourSpace.{ColourSpace}
 use Rattle.encoding.specs.declared.ColourSpace.the-variants as S
 use Rattle.encoding.specs.declared.RenderingIntent.{RenderingIntent}
@@ -88,7 +89,7 @@ twice = record { m0 = bits 0x4000_0000; m1 = zero; m2 = zero; m3 = zero; m4 = on
 
 abbrev pub floatsIn : List Op → List Float
 floatsIn [] = []
-floatsIn (o ∷ os) = floatsOf o ++ floatsIn os
+floatsIn (o ∷ os) = map floatIn (valuesOf o) ++ floatsIn os
 
 abbrev pub merged : List ℕ
 merged = bitsOf (floatsIn (mergeOps (O.Matrix swap ∷ O.Matrix twice ∷ [])))
@@ -107,12 +108,9 @@ listedBlock =
 abbrev pub half : List Float
 half = bits 0x3f00_0000 ∷ []
 
--- the three channels, one after the other, after the listed block ran on a = 0.5
-abbrev pub ran : Channels → List ℕ
-ran s = bitsOf (s .a ++ (s .b ++ s .c))
-
-abbrev pub listedRun : List ℕ
-listedRun = ran (ranOf (readOf listedBlock .plan) (channels half (zero ∷ []) (zero ∷ [])))
+-- the three channels after the listed block ran on a = 0.5
+abbrev pub listedRun : Channels
+listedRun = ranOf (readOf listedBlock .plan) (channels half (zero ∷ []) (zero ∷ []))
 
 -- D65 with the primaries of sRGB
 abbrev pub enum : ColourSpace → Curve → RenderingIntent → ColourEncoding
@@ -134,10 +132,12 @@ rows =
     -- "Clip of 1.5, -2: 1, 0."
     ∷ row (bitsOf (clipOf (bits 0x3fc0_0000) ∷ clipOf (bits 0xc000_0000) ∷ [])) (0x3f80_0000 ∷ 0 ∷ [])
     -- "The listed block on a = 0.5 ends with 0.5 in all three channels."
-    ∷ row listedRun (0x3f00_0000 ∷ 0x3f00_0000 ∷ 0x3f00_0000 ∷ [])
+    ∷ row (bitsOf (listedRun .a)) (0x3f00_0000 ∷ [])
+    ∷ row (bitsOf (listedRun .b)) (0x3f00_0000 ∷ [])
+    ∷ row (bitsOf (listedRun .c)) (0x3f00_0000 ∷ [])
     -- "ICC count: empty 3; 20 bytes ending `GRAY` 1."
     ∷ row (iccChannels [] ∷ []) (3 ∷ [])
-    ∷ row (iccChannels (replicate 16 0 ++ gray) ∷ []) (1 ∷ [])
+    ∷ row (iccChannels (replicate 16 0 ++ (0x47 ∷ 0x52 ∷ 0x41 ∷ 0x59 ∷ [])) ∷ []) (1 ∷ [])
     -- "Xyb to Rgb D65 Srgb Linear, intensity 255: XybToMixedLms, Matrix."
     ∷ row (kinds (list (enum S.Xyb C.Linear I.Perceptual) (enum S.Rgb C.Linear I.Perceptual))) (0 ∷ 3 ∷ [])
     -- "Grey Linear Perceptual to Rgb: check gives 5 at 1."

@@ -1,48 +1,46 @@
-// Recorded answers as text: lines, their words, and the values that words stand for.
-ghost use mathlib.Core.Path.{_≡_};
+// Recorded answers as text, a record to a line: words of eight hexadecimal digits in lower case, a single space between two.
+// What the tests read is compared and not proved: the contracts here are those that safety rests on.
 ghost use Prim.Native.Nat.{_+_, _≤_, _<_};
 ghost use lib.ListN.{length};
-ghost use Rattle.record.specs.Line.{within as isWithin, digitOf, stands, isRecord, wordsOf, halfAt, wordOf, isKind, endOf};
-ghost use Rattle.record.specs.Value.{floatOf, bitsOf, signedOf};
 
-fn within(low: u8, high: u8, b: u8) -> bool
-    ensures { λ r. ⌜ r ≡ isWithin low high b ⌝ }
-{
-    if b < low {
-        return false;
-    }
-    b <= high
-}
+mod colours; // colours.rt: vectors, matrices, white points, primaries and curves
+mod ops; // ops.rt: ops and lists of ops
+mod samples; // samples.rt: three channels of samples
 
+pub use colours::curve_of;
+pub use colours::is_curve;
+pub use colours::is_flag;
+pub use colours::mat_of;
+pub use colours::primaries_of;
+pub use colours::primaries_words;
+pub use colours::vec_of;
+pub use colours::white_of;
+pub use colours::white_words;
+pub use colours::xy_of;
+pub use ops::Found;
+pub use ops::list_at;
+pub use samples::read_channels;
+pub use samples::same_channels;
+
+// What a digit counts, `0` to `9` and `a` to `f`.
 fn digit(b: u8) -> u32
-    ensures { λ r. ⌜ (r ≡ digitOf b) × (r < 16) ⌝ }
+    ensures { λ r. ⌜ r < 16 ⌝ }
 {
-    if within(b'0', b'9', b) {
-        return (b - b'0') as u32;
+    if b >= b'a' {
+        return ((b % 16 + 9) % 16) as u32;
     }
-    if within(b'a', b'f', b) {
-        return (b - 87) as u32;
-    }
-    0
+    (b % 16) as u32
 }
 
-// Whether the byte b can stand at the place i of a record.
-fn can_stand(i: usize, b: u8) -> bool
-    ensures { λ r. ⌜ r ≡ stands i b ⌝ }
-{
+// Whether the byte b can stand at the place i of a record: of every nine bytes the ninth is a space, and the others are digits.
+fn can_stand(i: usize, b: u8) -> bool {
     if i % 9 == 8 {
         return b == b' ';
     }
-    if within(b'0', b'9', b) {
-        return true;
-    }
-    within(b'a', b'f', b)
+    (b'0' <= b) & (b <= b'9') | (b'a' <= b) & (b <= b'f')
 }
 
-// Whether a line is a record.
-pub fn is_record(line: &[u8]) -> bool
-    ensures { λ r. ⌜ r ≡ isRecord (now (line .entry)) ⌝ }
-{
+pub fn is_record(line: &[u8]) -> bool {
     let mut i: usize = 0;
     while i < line.len() {
         if !can_stand(i, line[i]) {
@@ -54,28 +52,13 @@ pub fn is_record(line: &[u8]) -> bool
 }
 
 // How many words a record has.
-pub fn words(line: &[u8]) -> usize
-    ensures { λ r. ⌜ r ≡ wordsOf (now (line .entry)) ⌝ }
-{
+pub fn words(line: &[u8]) -> usize {
     line.len() / 9 + 1
-}
-
-// Whether a line is a record of this kind, its first word, and of as many words.
-pub fn is_kind(line: &[u8], kind: u32, count: usize) -> bool
-    ensures { λ r. ⌜ r ≡ isKind (now (line .entry)) kind count ⌝ }
-{
-    if !is_record(line) {
-        return false;
-    }
-    if word(line, 0) != kind {
-        return false;
-    }
-    words(line) == count
 }
 
 fn half(line: &[u8], at: usize) -> u32
     requires { ⌜ at + 4 ≤ length (now line) ⌝ }
-    ensures { λ r. ⌜ (r ≡ halfAt (now (line .entry)) at) × (r < 65536) ⌝ }
+    ensures { λ r. ⌜ r < 65536 ⌝ }
 {
     digit(line[at]) * 4096
         + digit(line[at + 1]) * 256
@@ -84,9 +67,7 @@ fn half(line: &[u8], at: usize) -> u32
 }
 
 // Word k of a line, counted from 0; 0 where the line is too short.
-pub fn word(line: &[u8], k: usize) -> u32
-    ensures { λ r. ⌜ r ≡ wordOf (now (line .entry)) k ⌝ }
-{
+pub fn word(line: &[u8], k: usize) -> u32 {
     if line.len() < 8 {
         return 0;
     }
@@ -96,41 +77,22 @@ pub fn word(line: &[u8], k: usize) -> u32
     half(line, 9 * k) * 65536 + half(line, 9 * k + 4)
 }
 
-// Word k of a line as a float.
-pub fn float(line: &[u8], k: usize) -> f32
-    ensures { λ r. ⌜ r ≡ floatOf (wordOf (now (line .entry)) k) ⌝ }
-{
-    float_of(word(line, k))
+// The part of a line from word k on.
+pub fn from_word(line: &[u8], k: usize) -> &[u8] {
+    if line.len() / 9 < k {
+        return &line[..0];
+    }
+    &line[9 * k..]
 }
 
-// The first newline at or after from, or the end of s.
-pub fn line_end(s: &[u8], from: usize) -> usize
-    ensures { λ r. ⌜ r ≡ endOf (now (s .entry)) from ⌝ }
-{
-    let mut i = from;
-    while i < s.len() {
-        if s[i] == b'\n' {
-            return i;
-        }
-        i += 1;
-    }
-    i
-}
-
-// The float with these bits; every NaN's pattern is the one NaN.
-pub fn float_of(bits: u32) -> f32
-    ensures { λ r. ⌜ r ≡ floatOf bits ⌝ }
-{
-    if bits % 0x8000_0000 > 0x7f80_0000 {
-        return 0.0 / 0.0;
-    }
-    f32::from_bits(bits)
+// Word k of a line as a float; every NaN's pattern is the one NaN.
+pub fn float(line: &[u8], k: usize) -> f32 {
+    let bits = word(line, k) as u64;
+    binary32::put_together(bits >= 0x8000_0000, bits % 0x8000_0000)
 }
 
 // The bits of a float; every NaN is 7fc00000.
-pub fn bits_of(x: f32) -> u32
-    ensures { λ r. ⌜ r ≡ bitsOf x ⌝ }
-{
+pub fn bits_of(x: f32) -> u32 {
     if x != x {
         return 0x7fc0_0000;
     }
@@ -138,9 +100,7 @@ pub fn bits_of(x: f32) -> u32
 }
 
 // A word in two's complement.
-pub fn signed_of(n: u32) -> i32
-    ensures { λ r. ⌜ r ≡ signedOf n ⌝ }
-{
+pub fn signed_of(n: u32) -> i32 {
     if n < 0x8000_0000 {
         return n as i32;
     }

@@ -1,2 +1,2 @@
--- How far a replay program is with its list.
-pub mod State
+-- What the program's end rests on.
+pub mod Turns

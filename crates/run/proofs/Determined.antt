@@ -4,13 +4,13 @@ use mathlib.Core.Path.{sym, _∙_}
 use denote.Ref.{now}
 use Rattle.notation.proofs.Determines.{Determines}
 use Rattle.channels.specs.Channels.{channels}
-use Rattle.run.proofs.judging.judge.Reads as judge
-use Rattle.run.proofs.judging.judge.Kinds as judge-kinds
+use Rattle.run.proofs.outcomes.paper.Reads as paper
+use Rattle.run.proofs.outcomes.paper.Kinds as paper-kinds
 use Rattle.run.proofs.run.Reads as run
 use Rattle.run.proofs.run.Kinds as run-kinds
 
-pub judge-determines : Determines 0 judge-kinds.ps judge-kinds.r judge.Post (λ κs r s. r)
-judge-determines κs a x y s t p q = p ∙ sym q
+pub paper-determines : Determines 0 paper-kinds.ps paper-kinds.r paper.Post (λ κs r s. r)
+paper-determines κs a x y s t p q = p ∙ sym q
 
 pub run-determines : Determines 3 run-kinds.ps run-kinds.r run.Post (λ κs r s. r)
 run-determines κs a x y s t p q = p .0 ∙ sym (q .0)

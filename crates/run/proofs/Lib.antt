@@ -1,8 +1,10 @@
--- Laws of a run's loops; demand 3's theorems on runs; and that the contracts determine.
-pub mod Turn
-pub mod Judged
-pub mod Lengths
-pub mod Depends
+-- Theorems: Exactly (when each outcome is given), Reaches (demand 3 on runs), OpByOp (ops in list order), Determined.
+pub mod Exactly
 pub mod Reaches
 pub mod OpByOp
 pub mod Determined
+-- their laws, and those of the loop over ops
+pub mod Answered
+pub mod Leaving
+pub mod Depends
+pub mod Turn

@@ -4,6 +4,13 @@ use lib.Ieee.{Float, toUnsigned}
 use Rattle.notation.specs.F32.{_+f_, _*f_, bits}
 use Rattle.steps.specs.Samples.{clipOf}
 
+-- 255 and 0.5
+abbrev pub full : Float
+full = bits 0x437f_0000
+
+abbrev pub half : Float
+half = bits 0x3f00_0000
+
 -- `toUnsigned 8` drops the fraction, takes a NaN to 0, and holds the rest within 0 to 255
 unfoldable pub screenByte : Float → ℕ
-screenByte x = toUnsigned 8 (clipOf x *f bits 0x437f_0000 +f bits 0x3f00_0000)  -- 255.0, 0.5
+screenByte x = toUnsigned 8 (clipOf x *f full +f half)

@@ -1,13 +1,34 @@
 // Samples as bytes for a screen.
 ghost use mathlib.Core.Path.{_≡_};
-ghost use mathlib.Core.List.{map};
-ghost use lib.Dec.{eqb};
 ghost use lib.Ieee.{toUnsigned};
-ghost use lib.ListN.{length};
-ghost use Rattle.notation.specs.Choice.{if_then_else_};
-ghost use Rattle.channels.specs.Conversions.{conversionOf};
 ghost use Rattle.screen.specs.Screen.{screenByte};
-use channels::Conversion;
+ghost use Rattle.screen.specs.Showing.{paper, showingOf, shownOf};
+use notation::Answer;
+
+// What the conversion of a slice of samples answers.
+pub enum Showing {
+    Done,
+    // Refusal 4: there are not as many bytes as samples, and nothing was changed.
+    Unequal,
+}
+
+// The paper's answer.
+pub fn paper(showing: Showing) -> Answer
+    ensures { λ r. ⌜ r ≡ paper showing ⌝ }
+{
+    match showing {
+        Showing::Done => Answer {
+            number: 0,
+            position: 0,
+            width: 0,
+        },
+        Showing::Unequal => Answer {
+            number: 4,
+            position: 0,
+            width: 0,
+        },
+    }
+}
 
 // x without its fraction, held within 0 to 255; NaN gives 0.
 fn whole(x: f32) -> u8
@@ -31,24 +52,17 @@ pub fn screen_byte(sample: f32) -> u8
     whole(steps::clipped(sample) * 255.0 + 0.5)
 }
 
-fn bytes_each(samples: &[f32], bytes: &mut [u8])
-    requires { ⌜ length (now samples) ≡ length (now bytes) ⌝ }
-    ensures { λ _. ⌜ now (bytes .exit) ≡ map screenByte (now (samples .entry)) ⌝ }
+pub fn screen_bytes(samples: &[f32], bytes: &mut [u8]) -> Showing
+    ensures { λ r. ⌜ r ≡ showingOf (now (samples .entry)) (now (bytes .entry)) ⌝ }
+    ensures { λ _. ⌜ now (bytes .exit) ≡ shownOf (now (samples .entry)) (now (bytes .entry)) ⌝ }
 {
+    if samples.len() != bytes.len() {
+        return Showing::Unequal;
+    }
     let mut i: usize = 0;
     while i < bytes.len() {
         bytes[i] = screen_byte(samples[i]);
         i += 1;
     }
-}
-
-pub fn screen_bytes(samples: &[f32], bytes: &mut [u8]) -> Conversion
-    ensures { λ r. ⌜ r ≡ conversionOf (eqb (length (now (samples .entry))) (length (now (bytes .entry)))) ⌝ }
-    ensures { λ _. ⌜ now (bytes .exit) ≡ (if eqb (length (now (samples .entry))) (length (now (bytes .entry))) then map screenByte (now (samples .entry)) else now (bytes .entry)) ⌝ }
-{
-    if samples.len() == bytes.len() {
-        bytes_each(samples, bytes);
-        return Conversion::Done;
-    }
-    Conversion::Unequal
+    Showing::Done
 }

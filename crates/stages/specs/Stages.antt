@@ -26,6 +26,33 @@ use Rattle.encoding.specs.declared.RenderingIntent.the-variants as I
 use Rattle.encoding.specs.declared.EnumColourEncoding.{EnumColourEncoding}
 use Rattle.encoding.specs.declared.Settings.{Settings}
 
+-- ---- the constants of 01's sentences, by their bits
+
+-- "`intensity_target` > 255.0"
+abbrev pub screenPeak : Float
+screenPeak = bits 0x437f_0000
+
+-- "within 999.0 to 1001.0", around 1000.0
+abbrev pub nearFrom : Float
+nearFrom = bits 0x4479_c000
+
+abbrev pub hlgPeak : Float
+hlgPeak = bits 0x447a_0000
+
+abbrev pub nearTo : Float
+nearTo = bits 0x447a_4000
+
+-- "the target curve carries 300.0"
+abbrev pub curvePeak : Float
+curvePeak = bits 0x4396_0000
+
+-- the saturation factors of a GamutMap, 0.3, and 0.1 in the PQ to HLG steps
+abbrev pub factor : Float
+factor = bits 0x3e99_999a
+
+abbrev pub hlgFactor : Float
+hlgFactor = bits 0x3dcc_cccd
+
 -- ---- what HDR ops carry
 
 -- the luminance of each primary, `[mat[3], mat[4], mat[5]]` of the matrix to XYZ
@@ -78,7 +105,7 @@ differs current target =
 
 -- a perceptual GamutMap, else Clip
 abbrev pub limitOp : EnumColourEncoding → Op
-limitOp current = if sameIntent (current .«rendering_intent») I.Perceptual then O.GamutMap (ownLuminances current) (bits 0x3e99_999a) else O.Clip  -- 0.3
+limitOp current = if sameIntent (current .«rendering_intent») I.Perceptual then O.GamutMap (ownLuminances current) factor else O.Clip
 
 -- Yxy to XYZ, or RGB to XYZ
 abbrev pub toXyzOp : EnumColourEncoding → Op
@@ -125,19 +152,19 @@ toneMapOp current params display detect =
 
 -- after it, for three channels, a perceptual GamutMap
 abbrev pub gamutMapOps : EnumColourEncoding → Float → List Op
-gamutMapOps current factor =
+gamutMapOps current saturation =
     if not (sameSpace (current .«colour_space») S.Grey) && sameIntent (current .«rendering_intent») I.Perceptual
-    then O.GamutMap (ownLuminances current) factor ∷ []
+    then O.GamutMap (ownLuminances current) saturation ∷ []
     else []
 
 abbrev pub isToneMapped : EnumColourEncoding → Settings → Bool
-isToneMapped target settings = lt (bits 0x437f_0000) (settings .«intensity_target») && not (isHdr target)  -- 255.0
+isToneMapped target settings = lt screenPeak (settings .«intensity_target») && not (isHdr target)
 
 abbrev pub toneMapOps : EnumColourEncoding → EnumColourEncoding → Settings → List Op
 toneMapOps current target settings =
     if isToneMapped target settings
-    then toneMapOp current (hdrParams (ownLuminances current) (settings .«intensity_target») settings) (bits 0x437f_0000) (settings .«detect_peak»)  -- 255.0
-    ∷ gamutMapOps current (bits 0x3e99_999a)  -- 0.3
+    then toneMapOp current (hdrParams (ownLuminances current) (settings .«intensity_target») settings) screenPeak (settings .«detect_peak»)
+    ∷ gamutMapOps current factor
     else []
 
 -- ---- "the PQ to HLG steps, whose tone map and inverse OOTF are skipped within 999.0 to 1001.0, ends included"
@@ -146,25 +173,25 @@ abbrev pub isPqToHlg : EnumColourEncoding → Settings → Bool
 isPqToHlg target settings = settings .«from_pq» && sameCurve (target .tf) C.Hlg
 
 abbrev pub nearThousand : Float → Bool
-nearThousand intensity = le (bits 0x4479_c000) intensity && le intensity (bits 0x447a_4000)  -- 999.0, 1001.0
+nearThousand intensity = le nearFrom intensity && le intensity nearTo
 
 abbrev pub inverseOotfOps : EnumColourEncoding → Settings → List Op
 inverseOotfOps current settings =
     if nearThousand (settings .«intensity_target»)
     then []
-    else (toneMapOp current (hdrParams (ownLuminances current) (settings .«intensity_target») settings) (bits 0x447a_0000) false  -- 1000.0
-    ∷ O.HlgInverseOotf (hdrParams (ownLuminances current) (bits 0x447a_0000) settings) ∷ [])  -- 1000.0
+    else (toneMapOp current (hdrParams (ownLuminances current) (settings .«intensity_target») settings) hlgPeak false
+    ∷ O.HlgInverseOotf (hdrParams (ownLuminances current) hlgPeak settings) ∷ [])
 
 abbrev pub pqToHlgOps : EnumColourEncoding → EnumColourEncoding → Settings → List Op
 pqToHlgOps current target settings =
     if isPqToHlg target settings
-    then inverseOotfOps current settings ++ gamutMapOps current (bits 0x3dcc_cccd)  -- 0.1
+    then inverseOotfOps current settings ++ gamutMapOps current hlgFactor
     else []
 
 -- ---- "after those steps the target curve carries 300.0; a target curve unless Linear"
 
 abbrev pub curveIntensity : EnumColourEncoding → Settings → Float
-curveIntensity target settings = if isPqToHlg target settings then bits 0x4396_0000 else settings .«intensity_target»  -- 300.0
+curveIntensity target settings = if isPqToHlg target settings then curvePeak else settings .«intensity_target»
 
 abbrev pub curveOps : EnumColourEncoding → EnumColourEncoding → Settings → List Op
 curveOps current target settings =

@@ -1,14 +1,14 @@
 // Conversion: from the current colour space, white point and primaries to the target's, through CIE XYZ.
 ghost use mathlib.Core.Path.{_≡_};
-ghost use Rattle.op.specs.Lists.{appended};
+ghost use Rattle.list.specs.Lists.{appended};
 ghost use Rattle.stages.specs.Stages.{differs, limitOp, toXyzOp, adaptOps, fromXyzOp, convertOps, converted};
 use crate::params::own_luminances;
 use encoding::ColourSpace;
 use encoding::EnumColourEncoding;
 use encoding::RenderingIntent;
+use list::Plan;
 use op::Curve;
 use op::Op;
-use op::Plan;
 
 // Compared as named values and not as floats.
 fn differs(current: EnumColourEncoding, target: EnumColourEncoding) -> bool
@@ -63,9 +63,9 @@ fn adapt(out: Plan, current: EnumColourEncoding, target: EnumColourEncoding) -> 
     let white_point = current.white_point;
     let target_white_point = target.white_point;
     if encoding::same_intent(intent, RenderingIntent::Absolute) {
-        return out;
+        return list::kept(out);
     }
-    op::push(
+    list::push(
         out,
         Op::Matrix(ciexyz::adapt_mat(white_point, target_white_point)),
     )
@@ -89,12 +89,12 @@ pub fn convert(out: Plan, current: EnumColourEncoding, target: EnumColourEncodin
     ensures { λ r. ⌜ r ≡ appended out (convertOps current target) ⌝ }
 {
     if !differs(current, target) {
-        return out;
+        return list::kept(out);
     }
-    let limited = op::push(out, limit_op(current));
-    let xyz = op::push(limited, to_xyz_op(current));
+    let limited = list::push(out, limit_op(current));
+    let xyz = list::push(limited, to_xyz_op(current));
     let adapted = adapt(xyz, current, target);
-    op::push(adapted, from_xyz_op(target))
+    list::push(adapted, from_xyz_op(target))
 }
 
 // The current encoding, after conversion.

@@ -1,15 +1,15 @@
 // The target curve.
 ghost use mathlib.Core.Path.{_≡_};
-ghost use Rattle.op.specs.Lists.{appended};
+ghost use Rattle.list.specs.Lists.{appended};
 ghost use Rattle.stages.specs.Stages.{curveIntensity, curveOps};
 use crate::params::hdr_params;
 use crate::params::own_luminances;
 use crate::tone::is_pq_to_hlg;
 use encoding::EnumColourEncoding;
 use encoding::Settings;
+use list::Plan;
 use op::Curve;
 use op::Op;
-use op::Plan;
 
 fn curve_intensity(target: EnumColourEncoding, settings: Settings) -> f32
     ensures { λ r. ⌜ r ≡ curveIntensity target settings ⌝ }
@@ -32,14 +32,14 @@ pub fn target_curve(
 {
     let tf = target.tf;
     if same::same_curve(tf, Curve::Linear) {
-        return out;
+        return list::kept(out);
     }
     let hdr_params = hdr_params(
         own_luminances(current),
         curve_intensity(target, settings),
         settings,
     );
-    op::push(
+    list::push(
         out,
         Op::TransferFunction {
             curve: tf,

@@ -1,6 +1,6 @@
 // Decode: from the source's samples to linear ones.
 ghost use mathlib.Core.Path.{_≡_};
-ghost use Rattle.op.specs.Lists.{appended};
+ghost use Rattle.list.specs.Lists.{appended};
 ghost use Rattle.stages.specs.Stages.{fromXyb, inverseCurve, decodeOps, decoded};
 use crate::params::hdr_params;
 use crate::params::luminances_of;
@@ -9,10 +9,10 @@ use ciexyz::WhitePoint;
 use encoding::ColourSpace;
 use encoding::EnumColourEncoding;
 use encoding::Settings;
+use list::Plan;
 use op::Curve;
 use op::Luminances;
 use op::Op;
-use op::Plan;
 
 fn from_xyb(out: Plan, settings: Settings) -> Plan
     ensures { λ r. ⌜ r ≡ appended out (fromXyb settings) ⌝ }
@@ -20,21 +20,21 @@ fn from_xyb(out: Plan, settings: Settings) -> Plan
     let opsin_bias = settings.opsin_bias;
     let intensity_target = settings.intensity_target;
     let inv_mat = settings.inv_mat;
-    let lms = op::push(
+    let lms = list::push(
         out,
         Op::XybToMixedLms {
             opsin_bias,
             intensity_target,
         },
     );
-    op::push(lms, Op::Matrix(inv_mat))
+    list::push(lms, Op::Matrix(inv_mat))
 }
 
 fn inverse_curve(out: Plan, tf: Curve, luminances: Luminances, settings: Settings) -> Plan
     ensures { λ r. ⌜ r ≡ appended out (inverseCurve tf luminances settings) ⌝ }
 {
     let hdr_params = hdr_params(luminances, settings.intensity_target, settings);
-    op::push(
+    list::push(
         out,
         Op::TransferFunction {
             curve: tf,
@@ -62,7 +62,7 @@ pub fn decode(out: Plan, source: EnumColourEncoding, settings: Settings) -> Plan
             settings,
         ),
         // refused
-        ColourSpace::Unknown => out,
+        ColourSpace::Unknown => list::kept(out),
     }
 }
 

@@ -1,6 +1,6 @@
 // Tone mapping to a target that is not HDR, and the PQ to HLG steps.
 ghost use mathlib.Core.Path.{_≡_};
-ghost use Rattle.op.specs.Lists.{appended};
+ghost use Rattle.list.specs.Lists.{appended};
 ghost use Rattle.stages.specs.Stages.{toneMapOp, gamutMapOps, isToneMapped, toneMapOps, isPqToHlg, nearThousand, inverseOotfOps, pqToHlgOps};
 use crate::params::hdr_params;
 use crate::params::own_luminances;
@@ -8,10 +8,10 @@ use encoding::ColourSpace;
 use encoding::EnumColourEncoding;
 use encoding::RenderingIntent;
 use encoding::Settings;
+use list::Plan;
 use op::Curve;
 use op::HdrParams;
 use op::Op;
-use op::Plan;
 
 fn tone_map_op(current: EnumColourEncoding, params: HdrParams, display: f32, detect: bool) -> Op
     ensures { λ r. ⌜ r ≡ toneMapOp current params display detect ⌝ }
@@ -37,11 +37,11 @@ fn gamut_map(out: Plan, current: EnumColourEncoding, factor: f32) -> Plan
     let space = current.colour_space;
     let intent = current.rendering_intent;
     if encoding::same_colour_space(space, ColourSpace::Grey) {
-        return out;
+        return list::kept(out);
     }
     if encoding::same_intent(intent, RenderingIntent::Perceptual) {
         let luminances = own_luminances(current);
-        return op::push(
+        return list::push(
             out,
             Op::GamutMap {
                 luminances,
@@ -49,7 +49,7 @@ fn gamut_map(out: Plan, current: EnumColourEncoding, factor: f32) -> Plan
             },
         );
     }
-    out
+    list::kept(out)
 }
 
 fn is_tone_mapped(target: EnumColourEncoding, settings: Settings) -> bool
@@ -67,10 +67,10 @@ pub fn tone_map(
     ensures { λ r. ⌜ r ≡ appended out (toneMapOps current target settings) ⌝ }
 {
     if !is_tone_mapped(target, settings) {
-        return out;
+        return list::kept(out);
     }
     let hdr_params = hdr_params(own_luminances(current), settings.intensity_target, settings);
-    let mapped = op::push(
+    let mapped = list::push(
         out,
         tone_map_op(current, hdr_params, 255.0, settings.detect_peak),
     );
@@ -96,12 +96,12 @@ fn inverse_ootf(out: Plan, current: EnumColourEncoding, settings: Settings) -> P
 {
     let intensity = settings.intensity_target;
     if near_thousand(intensity) {
-        return out;
+        return list::kept(out);
     }
     let luminances = own_luminances(current);
     let from = hdr_params(luminances, intensity, settings);
-    let mapped = op::push(out, tone_map_op(current, from, 1000.0, false));
-    op::push(
+    let mapped = list::push(out, tone_map_op(current, from, 1000.0, false));
+    list::push(
         mapped,
         Op::HlgInverseOotf(hdr_params(luminances, 1000.0, settings)),
     )
@@ -116,7 +116,7 @@ pub fn pq_to_hlg(
     ensures { λ r. ⌜ r ≡ appended out (pqToHlgOps current target settings) ⌝ }
 {
     if !is_pq_to_hlg(target, settings) {
-        return out;
+        return list::kept(out);
     }
     gamut_map(inverse_ootf(out, current, settings), current, 0.1)
 }

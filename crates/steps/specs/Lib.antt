@@ -1,2 +1,2 @@
--- What the steps make of a sample.
+-- What the steps make of the samples.
 pub mod Samples

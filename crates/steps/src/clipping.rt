@@ -1,7 +1,9 @@
 // Clip: below 0 gives 0, above 1 gives 1.
 ghost use mathlib.Core.Path.{_≡_};
-ghost use mathlib.Core.List.{map};
-ghost use Rattle.steps.specs.Samples.{clipOf};
+ghost use Rattle.channels.specs.Channels.{channels, whereEqual};
+ghost use Rattle.channels.specs.Stepping.{stepOf};
+ghost use Rattle.steps.specs.Samples.{clipOf, clippedIf, clippedWithin};
+use channels::Stepping;
 
 // `clamp(0.0, 1.0)`: NaN and minus zero stay.
 pub fn clipped(x: f32) -> f32
@@ -16,12 +18,29 @@ pub fn clipped(x: f32) -> f32
     x
 }
 
-pub fn clip(samples: &mut [f32])
-    ensures { λ _. ⌜ now (samples .exit) ≡ map clipOf (now (samples .entry)) ⌝ }
+fn clip_if(inside: bool, samples: &mut [f32])
+    ensures { λ _. ⌜ now (samples .exit) ≡ clippedIf inside (now (samples .entry)) ⌝ }
 {
+    if !inside {
+        return;
+    }
     let mut i: usize = 0;
     while i < samples.len() {
         samples[i] = clipped(samples[i]);
         i += 1;
     }
+}
+
+// The channels within the width.
+pub fn clip(width: u8, a: &mut [f32], b: &mut [f32], c: &mut [f32]) -> Stepping
+    ensures { λ r. ⌜ r ≡ stepOf width (channels (now (a .entry)) (now (b .entry)) (now (c .entry))) ⌝ }
+    ensures { λ _. ⌜ channels (now (a .exit)) (now (b .exit)) (now (c .exit)) ≡ whereEqual (clippedWithin width) (channels (now (a .entry)) (now (b .entry)) (now (c .entry))) ⌝ }
+{
+    if !channels::same_lengths(a.len(), b.len(), c.len()) {
+        return Stepping::Unequal;
+    }
+    clip_if(1 <= width, a);
+    clip_if(2 <= width, b);
+    clip_if(3 <= width, c);
+    Stepping::Done { width }
 }

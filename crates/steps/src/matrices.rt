@@ -1,17 +1,19 @@
 // Matrix: each triple of samples by `matmul3vec`.
 ghost use mathlib.Core.Path.{_≡_};
-ghost use lib.ListN.{length};
 ghost use Rattle.ciexyz.specs.Matrix.{applied};
-ghost use Rattle.channels.specs.Channels.{channels, each, equallyLong};
-ghost use Rattle.channels.specs.Conversions.{conversionOf, inStep};
-use channels::Conversion;
+ghost use Rattle.channels.specs.Channels.{channels, each, whereEqual};
+ghost use Rattle.channels.specs.Stepping.{stepOf};
+use channels::Stepping;
 use ciexyz::Mat3;
 use ciexyz::Vec3;
 
-fn matrix_each(m: Mat3, a: &mut [f32], b: &mut [f32], c: &mut [f32])
-    requires { ⌜ (length (now b) ≡ length (now a)) × (length (now c) ≡ length (now a)) ⌝ }
-    ensures { λ _. ⌜ channels (now (a .exit)) (now (b .exit)) (now (c .exit)) ≡ each (applied m) (channels (now (a .entry)) (now (b .entry)) (now (c .entry))) ⌝ }
+pub fn matrix(m: Mat3, a: &mut [f32], b: &mut [f32], c: &mut [f32]) -> Stepping
+    ensures { λ r. ⌜ r ≡ stepOf 3 (channels (now (a .entry)) (now (b .entry)) (now (c .entry))) ⌝ }
+    ensures { λ _. ⌜ channels (now (a .exit)) (now (b .exit)) (now (c .exit)) ≡ whereEqual (each (applied m)) (channels (now (a .entry)) (now (b .entry)) (now (c .entry))) ⌝ }
 {
+    if !channels::same_lengths(a.len(), b.len(), c.len()) {
+        return Stepping::Unequal;
+    }
     let mut i: usize = 0;
     while i < a.len() {
         let sample = Vec3 {
@@ -25,15 +27,5 @@ fn matrix_each(m: Mat3, a: &mut [f32], b: &mut [f32], c: &mut [f32])
         c[i] = result.v2;
         i += 1;
     }
-}
-
-pub fn matrix(m: Mat3, a: &mut [f32], b: &mut [f32], c: &mut [f32]) -> Conversion
-    ensures { λ r. ⌜ r ≡ conversionOf (equallyLong (channels (now (a .entry)) (now (b .entry)) (now (c .entry)))) ⌝ }
-    ensures { λ _. ⌜ channels (now (a .exit)) (now (b .exit)) (now (c .exit)) ≡ inStep (applied m) (channels (now (a .entry)) (now (b .entry)) (now (c .entry))) ⌝ }
-{
-    if channels::same_lengths(a.len(), b.len(), c.len()) {
-        matrix_each(m, a, b, c);
-        return Conversion::Done;
-    }
-    Conversion::Unequal
+    Stepping::Done { width: 3 }
 }

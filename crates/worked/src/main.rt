@@ -10,8 +10,8 @@ use encoding::EnumColourEncoding;
 use encoding::RenderingIntent;
 use encoding::Settings;
 use libc::STDOUT_FILENO;
+use list::Plan;
 use op::Curve;
-use op::Plan;
 
 // The inverse opsin matrix and the bias that JPEG XL has where a picture names none.
 const OPSIN: Mat3 = Mat3 {

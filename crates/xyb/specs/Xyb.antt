@@ -21,6 +21,10 @@ mixedBy roots bias scale xyb =
 unfoldable pub rootsOf : Vec3 → Vec3
 rootsOf bias = vec (cbrtOf (bias .v0)) (cbrtOf (bias .v1)) (cbrtOf (bias .v2))
 
+-- 255
+abbrev pub full : Float
+full = bits 0x437f_0000
+
 -- a sample, at these biases and this intensity
 abbrev pub mixedLms : Vec3 → Float → Vec3 → Vec3
-mixedLms bias intensity = mixedBy (rootsOf bias) bias (bits 0x437f_0000 /f intensity)  -- 255.0
+mixedLms bias intensity = mixedBy (rootsOf bias) bias (full /f intensity)

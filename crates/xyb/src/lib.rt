@@ -1,10 +1,9 @@
 // The inversion of XYB, after src/xyb.rs: X, Y, B samples become mixed L, M, S.
 ghost use mathlib.Core.Path.{_≡_};
-ghost use lib.ListN.{length};
-ghost use Rattle.channels.specs.Channels.{channels, each, equallyLong};
-ghost use Rattle.channels.specs.Conversions.{conversionOf, inStep};
+ghost use Rattle.channels.specs.Channels.{channels, each, whereEqual};
+ghost use Rattle.channels.specs.Stepping.{stepOf};
 ghost use Rattle.xyb.specs.Xyb.{mixed, mixedBy, rootsOf, mixedLms};
-use channels::Conversion;
+use channels::Stepping;
 use ciexyz::Vec3;
 
 fn gamma3(root: f32, bias: f32, scale: f32, g: f32) -> f32
@@ -34,25 +33,6 @@ fn roots_of(bias: Vec3) -> Vec3
     }
 }
 
-fn invert_each(roots: Vec3, bias: Vec3, scale: f32, x: &mut [f32], y: &mut [f32], b: &mut [f32])
-    requires { ⌜ (length (now y) ≡ length (now x)) × (length (now b) ≡ length (now x)) ⌝ }
-    ensures { λ _. ⌜ channels (now (x .exit)) (now (y .exit)) (now (b .exit)) ≡ each (mixedBy roots bias scale) (channels (now (x .entry)) (now (y .entry)) (now (b .entry))) ⌝ }
-{
-    let mut i: usize = 0;
-    while i < x.len() {
-        let xyb = Vec3 {
-            v0: x[i],
-            v1: y[i],
-            v2: b[i],
-        };
-        let lms = inverted(roots, bias, scale, xyb);
-        x[i] = lms.v0;
-        y[i] = lms.v1;
-        b[i] = lms.v2;
-        i += 1;
-    }
-}
-
 // The cube roots of the biases are worked out once.
 pub fn xyb_to_mixed_lms(
     opsin_bias: Vec3,
@@ -60,15 +40,27 @@ pub fn xyb_to_mixed_lms(
     x: &mut [f32],
     y: &mut [f32],
     b: &mut [f32],
-) -> Conversion
-    ensures { λ r. ⌜ r ≡ conversionOf (equallyLong (channels (now (x .entry)) (now (y .entry)) (now (b .entry)))) ⌝ }
-    ensures { λ _. ⌜ channels (now (x .exit)) (now (y .exit)) (now (b .exit)) ≡ inStep (mixedLms «opsin_bias» «intensity_target») (channels (now (x .entry)) (now (y .entry)) (now (b .entry))) ⌝ }
+) -> Stepping
+    ensures { λ r. ⌜ r ≡ stepOf 3 (channels (now (x .entry)) (now (y .entry)) (now (b .entry))) ⌝ }
+    ensures { λ _. ⌜ channels (now (x .exit)) (now (y .exit)) (now (b .exit)) ≡ whereEqual (each (mixedLms «opsin_bias» «intensity_target»)) (channels (now (x .entry)) (now (y .entry)) (now (b .entry))) ⌝ }
 {
-    if channels::same_lengths(x.len(), y.len(), b.len()) {
-        let roots = roots_of(opsin_bias);
-        let scale = 255.0 / intensity_target;
-        invert_each(roots, opsin_bias, scale, x, y, b);
-        return Conversion::Done;
+    if !channels::same_lengths(x.len(), y.len(), b.len()) {
+        return Stepping::Unequal;
     }
-    Conversion::Unequal
+    let roots = roots_of(opsin_bias);
+    let scale = 255.0 / intensity_target;
+    let mut i: usize = 0;
+    while i < x.len() {
+        let xyb = Vec3 {
+            v0: x[i],
+            v1: y[i],
+            v2: b[i],
+        };
+        let lms = inverted(roots, opsin_bias, scale, xyb);
+        x[i] = lms.v0;
+        y[i] = lms.v1;
+        b[i] = lms.v2;
+        i += 1;
+    }
+    Stepping::Done { width: 3 }
 }

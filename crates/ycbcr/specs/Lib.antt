@@ -1,2 +1,3 @@
--- What YCbCr to RGB makes of a sample.
+-- What YCbCr to RGB makes of a sample, and what the conversion answers.
 pub mod Ycbcr
+pub mod Conversion

@@ -1,11 +1,35 @@
 // YCbCr to RGB, after src/ycbcr.rs.
 ghost use mathlib.Core.Path.{_≡_};
-ghost use lib.ListN.{length};
-ghost use Rattle.channels.specs.Channels.{channels, each, equallyLong};
-ghost use Rattle.channels.specs.Conversions.{conversionOf, inStep};
+ghost use Rattle.channels.specs.Channels.{channels, each, whereEqual};
 ghost use Rattle.ycbcr.specs.Ycbcr.{rgbOf};
-use channels::Conversion;
+ghost use Rattle.ycbcr.specs.Conversion.{paper, conversionOf};
 use ciexyz::Vec3;
+use notation::Answer;
+
+// What the conversion answers.
+pub enum Conversion {
+    Done,
+    // Refusal 4: the lent lengths are unequal, and nothing was changed.
+    Unequal,
+}
+
+// The paper's answer.
+pub fn paper(conversion: Conversion) -> Answer
+    ensures { λ r. ⌜ r ≡ paper conversion ⌝ }
+{
+    match conversion {
+        Conversion::Done => Answer {
+            number: 0,
+            position: 0,
+            width: 0,
+        },
+        Conversion::Unequal => Answer {
+            number: 4,
+            position: 0,
+            width: 0,
+        },
+    }
+}
 
 fn rgb(cbycr: Vec3) -> Vec3
     ensures { λ r. ⌜ r ≡ rgbOf cbycr ⌝ }
@@ -21,10 +45,14 @@ fn rgb(cbycr: Vec3) -> Vec3
     }
 }
 
-fn rgb_each(cb: &mut [f32], y: &mut [f32], cr: &mut [f32])
-    requires { ⌜ (length (now y) ≡ length (now cb)) × (length (now cr) ≡ length (now cb)) ⌝ }
-    ensures { λ _. ⌜ channels (now (cb .exit)) (now (y .exit)) (now (cr .exit)) ≡ each rgbOf (channels (now (cb .entry)) (now (y .entry)) (now (cr .entry))) ⌝ }
+// Cb, Y, Cr in; R, G, B out.
+pub fn ycbcr_to_rgb(cb: &mut [f32], y: &mut [f32], cr: &mut [f32]) -> Conversion
+    ensures { λ r. ⌜ r ≡ conversionOf (channels (now (cb .entry)) (now (y .entry)) (now (cr .entry))) ⌝ }
+    ensures { λ _. ⌜ channels (now (cb .exit)) (now (y .exit)) (now (cr .exit)) ≡ whereEqual (each rgbOf) (channels (now (cb .entry)) (now (y .entry)) (now (cr .entry))) ⌝ }
 {
+    if !channels::same_lengths(cb.len(), y.len(), cr.len()) {
+        return Conversion::Unequal;
+    }
     let mut i: usize = 0;
     while i < cb.len() {
         let cbycr = Vec3 {
@@ -38,15 +66,5 @@ fn rgb_each(cb: &mut [f32], y: &mut [f32], cr: &mut [f32])
         cr[i] = out.v2;
         i += 1;
     }
-}
-
-pub fn ycbcr_to_rgb(cb: &mut [f32], y: &mut [f32], cr: &mut [f32]) -> Conversion
-    ensures { λ r. ⌜ r ≡ conversionOf (equallyLong (channels (now (cb .entry)) (now (y .entry)) (now (cr .entry)))) ⌝ }
-    ensures { λ _. ⌜ channels (now (cb .exit)) (now (y .exit)) (now (cr .exit)) ≡ inStep rgbOf (channels (now (cb .entry)) (now (y .entry)) (now (cr .entry))) ⌝ }
-{
-    if channels::same_lengths(cb.len(), y.len(), cr.len()) {
-        rgb_each(cb, y, cr);
-        return Conversion::Done;
-    }
-    Conversion::Unequal
+    Conversion::Done
 }

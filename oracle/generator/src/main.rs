@@ -4,6 +4,7 @@ mod block;
 mod cbrt;
 mod ciexyz;
 mod debug;
+mod differences;
 mod edges;
 mod encodings;
 mod floats;
@@ -21,7 +22,7 @@ mod ycbcr;
 use std::io::{BufWriter, Write};
 
 const USAGE: &str = "usage: oracle fused|cbrt|ciexyz|plan|merge|run|ycbcr|block SEED COUNT, \
-                     or oracle cbrt-census";
+                     or oracle cbrt-census, or oracle differences";
 
 fn number<T: std::str::FromStr>(word: Option<String>) -> T {
     word.and_then(|word| word.parse().ok()).expect(USAGE)
@@ -30,8 +31,10 @@ fn number<T: std::str::FromStr>(word: Option<String>) -> T {
 fn main() {
     let mut words = std::env::args().skip(1);
     let kind = words.next().expect(USAGE);
-    if kind == "cbrt-census" {
-        return cbrt::census();
+    match kind.as_str() {
+        "cbrt-census" => return cbrt::census(),
+        "differences" => return differences::print(),
+        _ => {}
     }
     let rng = &mut rng::Rng::new(number(words.next()));
     let count: usize = number(words.next());

@@ -1,11 +1,27 @@
 -- `read_op` meets its contract.
--- Each return is what `opIn` says of a slice that passes the tests before it (Front).
+-- Each return is what `opIn` says of a slice that passes the tests before it (Front), of the fields that the kind has (Laid).
+use Prim.Native.Nat.{_+_, _-_, _≤_}
 use native.Mathlib.Omega.{arith}
-use Rattle.block.specs.Fields.{byteAt}
-use Rattle.block.proofs.Front.{payload-small, no-kind, unknown, short, bad, good}
 use borrow.Author.Needs.{needs}
+use lib.ListN.{length, take, drop, length-take, length-drop}
+use Rattle.parts.specs.Parts.{fieldsOf}
+use Rattle.block.specs.Fields.{bytesOf, byteAt}
+use Rattle.block.proofs.Layouts.{payload-small}
+use Rattle.block.proofs.Laid.{few, size-is, bad-is, op-is}
+use Rattle.block.proofs.Front.{no-kind, unknown, short, bad, good}
 use Rattle.block.proofs.read_op.Statement.{statement}
 use Rattle.block.proofs.read_op.Tie as tie
+
+-- the fields lie within the payload as the code cuts it
+within : (c : tie.Else3)
+    → let l = c .before .before .before in
+    let s = l .before .before .before .before .before .args .s .now in
+    (l .layout-of .result .count ≤ 9) × (bytesOf (fieldsOf (l .layout-of .result)) ≤ length (take (1 + c .before .payload .result - 1) (drop 1 s)))
+within c =
+    let l = c .before .before .before in
+    let s = l .before .before .before .before .before .args .s .now in
+    let n = c .before .payload .result in
+    (few (byteAt s 0) (l .layout-of .ensures), omega (arith, c .before .payload .ensures, c .if3 .left, length-take (1 + n - 1) (drop 1 s), length-drop 1 s))
 
 returns : tie.Need-returns
 returns c = no-kind (c .before .before .args .s .now) (c .if1 .taken)
@@ -16,16 +32,25 @@ shared-slice-read-kind c = search needs
 returns-2 : tie.Need-returns-2
 returns-2 c = unknown (c .before .before .before .before .args .s .now) (c .before .before .if1 .left) (omega (arith, c .if2 .taken))
 
+layout-of-requires : tie.Need-layout-of-requires
+layout-of-requires c κs = search needs
+
 payload-requires : tie.Need-payload-requires
-payload-requires c κs = search needs
+payload-requires c κs =
+    let l = c .before in
+    few (byteAt (l .before .before .before .before .before .args .s .now) 0) (l .layout-of .ensures)
 
 add-size : tie.Need-add-size
-add-size c = omega (arith, c .payload .ensures, payload-small (byteAt (c .before .before .before .before .before .args .s .now) 0))
+add-size c =
+    let l = c .before .before in
+    let kind = byteAt (l .before .before .before .before .before .args .s .now) 0 in
+    omega (arith, size-is kind (l .layout-of .ensures) (c .payload .ensures), payload-small kind)
 
 returns-3 : tie.Need-returns-3
 returns-3 c =
-    let p = c .before in
-    short (p .before .before .before .before .before .args .s .now) (p .before .before .before .if1 .left) (p .before .if2 .left) (rw (p .payload .ensures) at (c .if3 .taken))
+    let l = c .before .before .before in
+    let s = l .before .before .before .before .before .args .s .now in
+    short s (l .before .before .before .if1 .left) (l .before .if2 .left) (rw (size-is (byteAt s 0) (l .layout-of .ensures) (c .before .payload .ensures)) at (c .if3 .taken))
 
 sub-payload : tie.Need-sub-payload
 sub-payload c = search needs
@@ -36,21 +61,34 @@ part-payload-start c = search needs
 part-payload-end : tie.Need-part-payload-end
 part-payload-end c = search needs
 
-bad-field-requires : tie.Need-bad-field-requires
-bad-field-requires c κs = search needs
+any-bad-requires : tie.Need-any-bad-requires
+any-bad-requires c κs = within (c .before)
 
 returns-4 : tie.Need-returns-4
 returns-4 c =
-    let p = c .before .before .before .before in
-    bad (p .before .before .before .before .before .args .s .now) (p .before .before .before .if1 .left) (p .before .if2 .left) (p .payload .ensures) (c .before .before .before .if3 .left) (c .before .bad-field .ensures) (c .if4 .taken)
+    let e = c .before .before .before in
+    let l = e .before .before .before in
+    let s = l .before .before .before .before .before .args .s .now in
+    let kind = byteAt s 0 in
+    let q = l .layout-of .ensures in
+    bad s (l .before .before .before .if1 .left) (l .before .if2 .left) (size-is kind q (e .before .payload .ensures)) (e .if3 .left) (bad-is kind q _ (c .before .any-bad .ensures)) (c .if4 .taken)
 
-op-of-requires : tie.Need-op-of-requires
-op-of-requires c κs = search needs
+values-in-requires : tie.Need-values-in-requires
+values-in-requires c κs = within (c .before .before .before)
+
+op-by-requires : tie.Need-op-by-requires
+op-by-requires c κs = search needs
 
 returns-5 : tie.Need-returns-5
 returns-5 c =
-    let p = c .before .before .before .before .before in
-    good (p .before .before .before .before .before .args .s .now) (p .before .before .before .if1 .left) (p .before .if2 .left) (p .payload .ensures) (c .before .before .before .before .if3 .left) (c .before .before .bad-field .ensures) (c .before .if4 .left) (c .op-of .ensures)
+    let b = c .before .before in
+    let e = b .before .before .before in
+    let l = e .before .before .before in
+    let s = l .before .before .before .before .before .args .s .now in
+    let kind = byteAt s 0 in
+    let q = l .layout-of .ensures in
+    good s (l .before .before .before .if1 .left) (l .before .if2 .left) (size-is kind q (e .before .payload .ensures)) (e .if3 .left) (bad-is kind q _ (b .before .any-bad .ensures)) (b .if4 .left)
+    (op-is kind q _ (c .before .values-in .result) (c .before .values-in .ensures) (c .op-by .ensures))
 
 pub read-op-spec : {M : Type 1} → statement M
 read-op-spec =
@@ -59,13 +97,15 @@ read-op-spec =
     returns
     shared-slice-read-kind
     returns-2
+    layout-of-requires
     payload-requires
     add-size
     returns-3
     sub-payload
     part-payload-start
     part-payload-end
-    bad-field-requires
+    any-bad-requires
     returns-4
-    op-of-requires
+    values-in-requires
+    op-by-requires
     returns-5)

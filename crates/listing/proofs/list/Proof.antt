@@ -2,7 +2,7 @@
 -- The buffer is always large enough (`short`).
 use native.Mathlib.Omega.{arith}
 use Rattle.listing.proofs.Enough.{short}
-use Rattle.listing.proofs.Putting.{listed}
+use Rattle.buffer.proofs.Putting.{listed}
 use Rattle.listing.proofs.list.Statement.{statement}
 use Rattle.listing.proofs.list.Tie as tie
 

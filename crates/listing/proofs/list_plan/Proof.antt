@@ -2,7 +2,7 @@
 -- The buffer is always large enough (`plan-short`).
 use native.Mathlib.Omega.{arith}
 use Rattle.listing.proofs.Enough.{plan-short}
-use Rattle.listing.proofs.Putting.{listed}
+use Rattle.buffer.proofs.Putting.{listed}
 use Rattle.listing.proofs.list_plan.Statement.{statement}
 use Rattle.listing.proofs.list_plan.Tie as tie
 

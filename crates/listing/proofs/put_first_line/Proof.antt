@@ -3,7 +3,7 @@
 use borrow.Author.Needs.{needs}
 use Rattle.notation.specs.Text.{ascii}
 use Rattle.listing.specs.Words.{counted, ending}
-use Rattle.listing.proofs.Putting.{first, rest, both}
+use Rattle.buffer.proofs.Putting.{first, rest, both}
 use Rattle.listing.proofs.put_first_line.Statement.{statement}
 use Rattle.listing.proofs.put_first_line.Tie as tie
 

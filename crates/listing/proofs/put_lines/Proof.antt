@@ -2,9 +2,9 @@
 -- The first line, and behind it the lines of the ops.
 use borrow.Author.Needs.{needs}
 use native.Mathlib.Omega.{arith}
-use Rattle.op.specs.Lists.{opsOf}
+use Rattle.list.specs.Lists.{opsOf}
 use Rattle.listing.specs.Listing.{firstLine, opLines}
-use Rattle.listing.proofs.Putting.{first, rest, both}
+use Rattle.buffer.proofs.Putting.{first, rest, both}
 use Rattle.listing.proofs.Small.{start-small}
 use Rattle.listing.proofs.put_lines.Statement.{statement}
 use Rattle.listing.proofs.put_lines.Tie as tie
@@ -16,7 +16,7 @@ put-first-line-requires : tie.Need-put-first-line-requires
 put-first-line-requires c κs =
     let z = c .before .before .before in
     let p = z .args .plan in
-    (first (firstLine (p .start) (p .count)) (opLines 0 (opsOf p)) (z .pre .0), (omega (arith, start-small (z .pre .1)), omega (arith, z .pre .1 .1)))
+    (first (firstLine (p .start) (p .count)) (opLines 0 (opsOf p)) (z .pre .0), (omega (arith, start-small p (z .pre .1)), omega (arith, z .pre .1 .1)))
 
 put-op-lines-requires : tie.Need-put-op-lines-requires
 put-op-lines-requires c κs =

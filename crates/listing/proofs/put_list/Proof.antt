@@ -6,8 +6,9 @@ use native.Mathlib.Omega.{arith}
 use Rattle.notation.specs.Text.{ascii}
 use Rattle.listing.specs.Words.{ending}
 use Rattle.listing.specs.Listing.{lines}
-use Rattle.listing.proofs.Putting.{first, rest, both}
-use Rattle.listing.proofs.Small.{passes-lawful, misfit-lawful, width-small, position-small}
+use Rattle.buffer.proofs.Putting.{first, rest, both}
+use Rattle.list.proofs.Bounds.{passes-lawful, misfit-lawful}
+use Rattle.listing.proofs.Small.{width-small, position-small}
 use Rattle.listing.proofs.put_list.Statement.{statement}
 use Rattle.listing.proofs.put_list.Tie as tie
 

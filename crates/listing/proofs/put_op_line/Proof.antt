@@ -7,8 +7,8 @@ use Rattle.notation.specs.Text.{ascii}
 use Rattle.op.specs.declared.Op.{Op}
 use Rattle.listing.specs.Words.{nameOf, decimal}
 use Rattle.listing.specs.Listing.{opLine}
-use Rattle.listing.specs.Buffer.{Room, Put}
-use Rattle.listing.proofs.Putting.{first, Goes, begun, next, further}
+use Rattle.buffer.specs.Buffer.{Room, Put}
+use Rattle.buffer.proofs.Putting.{first, Goes, begun, next, further}
 use Rattle.listing.proofs.put_op_line.Statement.{statement}
 use Rattle.listing.proofs.put_op_line.Tie as tie
 

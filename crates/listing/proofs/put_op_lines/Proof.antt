@@ -5,9 +5,9 @@ use mathlib.Core.List.{map}
 use native.Mathlib.Omega.{arith}
 use borrow.Author.Needs.{needs}
 use lib.ListN.{take, drop, length}
-use Rattle.op.specs.Lists.{opOf}
+use Rattle.list.specs.Lists.{opOf}
 use Rattle.listing.specs.Listing.{opLines}
-use Rattle.listing.proofs.Putting.{Goes, begun, next, further}
+use Rattle.buffer.proofs.Putting.{Goes, begun, next, further}
 use Rattle.listing.proofs.Turning.{turn, last}
 use Rattle.listing.proofs.put_op_lines.Statement.{statement}
 use Rattle.listing.proofs.put_op_lines.Tie as tie

@@ -1,29 +1,28 @@
 -- `merge::merge` meets its contract.
--- A list that is well formed has a count of at most 32, which the loop asks for.
+-- A list that is not lawful is refused, and the loop asks for a lawful one.
 use mathlib.Core.Path.{sym, _∙_}
 use borrow.Author.Tests.{not-true, not-false}
-use Rattle.op.proofs.Formed.{formed-exactly}
+use Rattle.list.proofs.Formed.{lawful-exactly}
 use borrow.Author.Needs.{needs}
 use Rattle.merge.proofs.merge.Statement.{statement}
 use Rattle.merge.proofs.merge.Tie as tie
 
-well-formed-requires : tie.Need-well-formed-requires
-well-formed-requires c κs = search needs
+lawful-requires : tie.Need-lawful-requires
+lawful-requires c κs = search needs
 
 empty-requires : tie.Need-empty-requires
 empty-requires c κs = search needs
 
 returns : tie.Need-returns
-returns c = rw (← c .before .before .well-formed .ensures, not-true (c .before .before .well-formed .result) (c .before .if1 .taken)) (c .empty .ensures)
+returns c = rw (← c .before .before .lawful .ensures, not-true (c .before .before .lawful .result) (c .before .if1 .taken), c .empty .ensures)
 
 merge-ops-requires : tie.Need-merge-ops-requires
 merge-ops-requires c κs =
-    let p = c .before .before .before .args .plan in
-    formed-exactly (p .start) (p .count) .0 (sym (c .before .before .well-formed .ensures) ∙ not-false _ (c .before .if1 .left)) .1
+    lawful-exactly (c .before .before .before .args .plan) .0 (sym (c .before .before .lawful .ensures) ∙ not-false _ (c .before .if1 .left))
 
 returns-2 : tie.Need-returns-2
-returns-2 c = rw (← c .before .before .before .well-formed .ensures, not-false (c .before .before .before .well-formed .result) (c .before .before .if1 .left)) (c .merge-ops .ensures)
+returns-2 c = rw (← c .before .before .before .lawful .ensures, not-false (c .before .before .before .lawful .result) (c .before .before .if1 .left), c .merge-ops .ensures)
 
 pub merge-spec : {M : Type 1} → statement M
 merge-spec =
-    tie.close (tie.spec well-formed-requires empty-requires returns merge-ops-requires returns-2)
+    tie.close (tie.spec lawful-requires empty-requires returns merge-ops-requires returns-2)

@@ -7,7 +7,7 @@ use mathlib.Core.Logic.{⊎-elim}
 use native.Mathlib.Omega.{arith}
 use borrow.Author.Needs.{needs}
 use lib.ListN.{take, drop, length}
-use Rattle.op.specs.Lists.{opOf, planOf, appended}
+use Rattle.list.specs.Lists.{opOf, planOf, appended}
 use Rattle.merge.specs.Merge.{mergeOps}
 use Rattle.merge.specs.Steps.{held}
 use Rattle.merge.proofs.Turn.{matrix-turn, other-turn, ends, room}

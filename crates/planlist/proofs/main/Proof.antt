@@ -1,7 +1,7 @@
 -- `main` is safe and ends.
 -- What it writes lies within the buffer.
 use borrow.Author.Needs.{needs}
-use Rattle.listing.proofs.Within.{within, counts}
+use Rattle.buffer.proofs.Within.{within, counts}
 use Rattle.planlist.proofs.main.Statement.{statement}
 use Rattle.planlist.proofs.main.Tie as tie
 

@@ -43,8 +43,9 @@ merge-requires c κs = search needs
 
 returns-4 : tie.Need-returns-4
 returns-4 c =
-    let a = c .before .before .before .before .before .before .before .before .args in
-    rw (← c .before .before .before .before .before .before .before .is-out-of-range .ensures, c .before .before .before .before .before .before .if1 .left, ← c .before .before .before .before .before .is-equivalent .ensures, c .before .before .before .before .if2 .left, ← c .before .before .before .is-unsupported .ensures, c .before .before .if3 .left, c .merge .ensures, c .before .unmerged .ensures, merged (a .source) (a .target) (a .settings))
+    let d = c .before in
+    let a = d .before .before .before .before .before .before .before .before .args in
+    rw (← d .before .before .before .before .before .before .before .is-out-of-range .ensures, d .before .before .before .before .before .before .if1 .left, ← d .before .before .before .before .before .is-equivalent .ensures, d .before .before .before .before .if2 .left, ← d .before .before .before .is-unsupported .ensures, d .before .before .if3 .left, d .merge .ensures, d .before .unmerged .ensures, merged (a .source) (a .target) (a .settings))
 
 pub plan-enum-spec : {M : Type 1} → statement M
 plan-enum-spec =

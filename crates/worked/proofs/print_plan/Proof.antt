@@ -1,7 +1,7 @@
 -- `print_plan` is safe and ends.
 -- What it writes lies within the buffer.
 use borrow.Author.Needs.{needs}
-use Rattle.listing.proofs.Within.{within, counts}
+use Rattle.buffer.proofs.Within.{within, counts}
 use Rattle.worked.proofs.print_plan.Statement.{statement}
 use Rattle.worked.proofs.print_plan.Tie as tie
 

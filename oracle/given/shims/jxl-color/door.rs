@@ -3,6 +3,7 @@
 //! `convert/gamut_map.rs`.)
 
 use crate::TransferFunction::{self, *};
+use std::cell::RefCell;
 
 pub use crate::ciexyz::{
     adapt_mat, illuminant_to_xyz, matinv, matmul3, matmul3vec, primaries_to_xyz_mat,
@@ -42,4 +43,23 @@ pub fn curve_words(tf: TransferFunction) -> [u32; 2] {
         Dci => [7, 0],
         Hlg => [8, 0],
     }
+}
+
+thread_local! {
+    static NOTES: RefCell<Option<Vec<&'static str>>> = const { RefCell::new(None) };
+}
+
+/// What a function that is not in the given text does here: it is noted where notes are taken, and panics elsewhere.
+pub fn called(name: &'static str) {
+    NOTES.with_borrow_mut(|notes| match notes {
+        Some(notes) => notes.push(name),
+        None => unimplemented!("{name} is not in the given text"),
+    });
+}
+
+/// What f answers, and which functions that are not in the given text it called; they changed nothing.
+pub fn noted<T>(f: impl FnOnce() -> T) -> (T, Vec<&'static str>) {
+    NOTES.set(Some(Vec::new()));
+    let answer = f();
+    (answer, NOTES.take().unwrap_or_default())
 }

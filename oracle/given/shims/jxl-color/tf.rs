@@ -1,10 +1,11 @@
-//! Stands in for `tf.rs`, which is not given. No plan calls a curve, and no run that is carried.
+//! Stands in for `tf.rs`, which is not given. No plan calls a curve, and no run that is carried; a call only
+//! tells the door.
 
 macro_rules! missing {
     ($($name:ident($($arg:ident: $type:ty),*);)*) => {
         $(pub fn $name($($arg: $type),*) {
             $(let _ = $arg;)*
-            unimplemented!("{} is not in the given text", stringify!($name));
+            crate::cms::door::called(stringify!($name));
         })*
     };
 }

@@ -7,7 +7,7 @@ use mathlib.Core.Bool.{true}
 use types.Run.{OneOf, miss}
 use denote.Enum.Declared.{tagOf}
 use Rattle.op.proofs.Curve as Curve-kind
-use Rattle.same.specs.Same.{gammaOf}
+use Rattle.parts.specs.Curves.{gammaOf}
 use Rattle.op.specs.declared.Curve.{Curve}
 use Rattle.op.specs.declared.Curve.the-variants as C
 use Rattle.encoding.specs.Ranges.{gammaInRange}

@@ -2,7 +2,7 @@
 -- The words, and behind them the number.
 use borrow.Author.Needs.{needs}
 use Rattle.listing.specs.Words.{decimal}
-use Rattle.listing.proofs.Putting.{first, rest, both}
+use Rattle.buffer.proofs.Putting.{first, rest, both}
 use Rattle.listing.proofs.words.put_counted.Statement.{statement}
 use Rattle.listing.proofs.words.put_counted.Tie as tie
 

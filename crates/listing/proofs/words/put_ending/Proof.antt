@@ -2,7 +2,7 @@
 -- The words and the number, and behind them the line's end.
 use borrow.Author.Needs.{needs}
 use Rattle.notation.specs.Text.{ascii}
-use Rattle.listing.proofs.Putting.{first, rest, both}
+use Rattle.buffer.proofs.Putting.{first, rest, both}
 use Rattle.listing.proofs.words.put_ending.Statement.{statement}
 use Rattle.listing.proofs.words.put_ending.Tie as tie
 

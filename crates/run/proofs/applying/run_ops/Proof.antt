@@ -1,16 +1,15 @@
 -- `run_ops` applies the ops in list order.
 -- The invariant: to run what remains, from the channels as they are, is to run the whole from the channels as they were.
+use Prim.Native.Nat.{_-_, _<_, _≤_}
 use mathlib.Core.Path.{refl, sym, _∙_, _≡_}
 use mathlib.Core.List.{map}
-use Prim.Native.Nat.{_-_, _<_, _≤_}
 use native.Mathlib.Omega.{arith}
 use borrow.Author.Needs.{needs}
 use lib.ListN.{drop, length, take}
-use Rattle.binary32.specs.Parts.{count}
 use Rattle.channels.specs.Channels.{channels}
-use Rattle.op.specs.Lists.{opOf}
-use Rattle.run.proofs.Turn.{run-ends, runs-on}
+use Rattle.list.specs.Lists.{opOf}
 use Rattle.run.specs.Run.{runOps}
+use Rattle.run.proofs.Turn.{run-ends, runs-on}
 use Rattle.run.proofs.applying.run_ops.Statement.{statement}
 use Rattle.run.proofs.applying.run_ops.Tie as tie
 
@@ -32,11 +31,7 @@ array-copy-out-slot : tie.Need-array-copy-out-slot Inv-loop μ-loop
 array-copy-out-slot c = omega arith
 
 apply-requires : tie.Need-apply-requires Inv-loop μ-loop
-apply-requires c κs =
-    let l = c .before .before .before .before .before in
-    let v = l .loop .inv in
-    let p = l .before .before .before .before .pre .1 in
-    (v .2 ∙ p .0 ∙ sym (v .1), v .3 ∙ p .1 ∙ sym (v .1))
+apply-requires c κs = search needs
 
 gives-requires : tie.Need-gives-requires Inv-loop μ-loop
 gives-requires c κs = search needs
@@ -53,13 +48,14 @@ loop-again c =
     let l = q .before .before .before .before .before .before in
     let v = l .loop .inv in
     let s = l .before .before .before .before in
+    let p = s .pre .1 in
     let k : l .loop .i < length (s .args .t1) = search needs in
     let m = q .apply .kept in (
       omega arith,
       m .1 .1 .0 ∙ v .1,
       m .1 .1 .1 .0 ∙ v .2,
       m .1 .1 .1 .1 .0 ∙ v .3,
-      runs-on _ _ _ _ (q .before .before .before .before .before .loop-test .taken) k _ _ (q .apply .ensures) (c .gives .ensures) ∙ v .4,
+      runs-on _ _ _ _ (q .before .before .before .before .before .loop-test .taken) k _ (channels (l .loop .a) (l .loop .b) (l .loop .c)) (v .2 ∙ p .0 ∙ sym (v .1), v .3 ∙ p .1 ∙ sym (v .1)) (q .apply .ensures .1) (c .gives .ensures) ∙ v .4,
     )
 
 same-length : tie.Need-same-length Inv-loop μ-loop

@@ -7,8 +7,11 @@ use Rattle.stages.proofs.conversion.adapt.Tie as tie
 same-intent-requires : tie.Need-same-intent-requires
 same-intent-requires c κs = search needs
 
+kept-requires : tie.Need-kept-requires
+kept-requires c κs = search needs
+
 returns : tie.Need-returns
-returns c = rw (← c .before .same-intent .ensures, c .if1 .taken)
+returns c = rw (← c .before .before .same-intent .ensures, c .before .if1 .taken) (c .kept .ensures)
 
 adapt-mat-requires : tie.Need-adapt-mat-requires
 adapt-mat-requires c κs = search needs
@@ -21,4 +24,4 @@ returns-2 c = rw (← c .before .before .before .same-intent .ensures, c .before
 
 pub adapt-spec : {M : Type 1} → statement M
 adapt-spec =
-    tie.close (tie.spec same-intent-requires returns adapt-mat-requires push-requires returns-2)
+    tie.close (tie.spec same-intent-requires kept-requires returns adapt-mat-requires push-requires returns-2)

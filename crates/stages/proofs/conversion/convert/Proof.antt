@@ -10,8 +10,11 @@ use Rattle.stages.proofs.conversion.convert.Tie as tie
 differs-requires : tie.Need-differs-requires
 differs-requires c κs = search needs
 
+kept-requires : tie.Need-kept-requires
+kept-requires c κs = search needs
+
 returns : tie.Need-returns
-returns c = rw (← c .before .differs .ensures, not-true (c .before .differs .result) (c .if1 .taken))
+returns c = rw (← c .before .before .differs .ensures, not-true (c .before .before .differs .result) (c .before .if1 .taken)) (c .kept .ensures)
 
 limit-op-requires : tie.Need-limit-op-requires
 limit-op-requires c κs = search needs
@@ -45,6 +48,7 @@ convert-spec =
     tie.close
     (tie.spec
     differs-requires
+    kept-requires
     returns
     limit-op-requires
     push-requires

@@ -7,8 +7,11 @@ use Rattle.stages.proofs.curve.target_curve.Tie as tie
 same-curve-requires : tie.Need-same-curve-requires
 same-curve-requires c κs = search needs
 
+kept-requires : tie.Need-kept-requires
+kept-requires c κs = search needs
+
 returns : tie.Need-returns
-returns c = rw (← c .before .same-curve .ensures, c .if1 .taken)
+returns c = rw (← c .before .before .same-curve .ensures, c .before .if1 .taken) (c .kept .ensures)
 
 own-luminances-requires : tie.Need-own-luminances-requires
 own-luminances-requires c κs = search needs
@@ -30,6 +33,7 @@ target-curve-spec =
     tie.close
     (tie.spec
     same-curve-requires
+    kept-requires
     returns
     own-luminances-requires
     curve-intensity-requires

@@ -31,6 +31,9 @@ inverse-curve-requires-2 c κs = search needs
 enum-told-4 : tie.Need-enum-told-4
 enum-told-4 c = search needs
 
+kept-requires : tie.Need-kept-requires
+kept-requires c κs = search needs
+
 returns : tie.Need-returns
 returns c = rw (c .before .enum-told .given .1) (c .from-xyb .ensures)
 
@@ -41,7 +44,7 @@ returns-3 : tie.Need-returns-3
 returns-3 c = rw (c .before .before .enum-told3 .given .1, ← c .before .luminances-of2 .ensures) (c .inverse-curve2 .ensures)
 
 returns-4 : tie.Need-returns-4
-returns-4 c = rw (c .enum-told4 .given .1)
+returns-4 c = rw (c .before .enum-told4 .given .1) (c .kept .ensures)
 
 pub decode-spec : {M : Type 1} → statement M
 decode-spec =
@@ -56,6 +59,7 @@ decode-spec =
     luminances-of-requires-2
     inverse-curve-requires-2
     enum-told-4
+    kept-requires
     returns
     returns-2
     returns-3

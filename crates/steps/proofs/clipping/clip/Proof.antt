@@ -1,57 +1,56 @@
--- `clip` clips each sample.
--- The loop argument is `Rewriting`'s, for the mapped list.
-use mathlib.Core.Path.{refl}
-use mathlib.Core.List.{map}
-use Prim.Native.Nat.{_-_}
-use native.Mathlib.Omega.{arith}
+-- `clip` clips the channels within the width where the lengths are equal, and changes nothing where they are not.
+-- The test of the lengths decides; each call says what it leaves.
+use mathlib.Core.Path.{sym, _∙_}
+use borrow.Author.Tests.{not-false, not-true}
 use borrow.Author.Needs.{needs}
-use lib.ListN.{length}
-use lib.Ieee.{nan}
-use Rattle.channels.proofs.Rewriting.{Rewritten, ended, map-begun, map-write}
-use Rattle.steps.specs.Samples.{clipOf}
 use Rattle.steps.proofs.clipping.clip.Statement.{statement}
 use Rattle.steps.proofs.clipping.clip.Tie as tie
 
-abbrev Inv-loop : tie.InvT-loop
-Inv-loop samples₀ i₀ samples i = Rewritten (map clipOf samples₀) samples₀ i samples
+same-lengths-requires : tie.Need-same-lengths-requires
+same-lengths-requires c κs = search needs
 
-abbrev μ-loop : tie.MeasureT-loop
-μ-loop samples₀ i₀ samples i = length samples₀ - i
+returns : tie.Need-returns
+returns c =
+    let e = sym (c .before .same-lengths .ensures) ∙ not-true _ (c .if1 .taken) in
+    (rw e, rw e)
 
-loop-holds : tie.Need-loop-holds Inv-loop μ-loop
-loop-holds c = map-begun clipOf (c .before .args .samples .now) _ refl
+clip-if-requires : tie.Need-clip-if-requires
+clip-if-requires c κs = search needs
 
-mul-clipped : tie.Need-mul-clipped Inv-loop μ-loop
-mul-clipped c = omega arith
+clip-if-requires-2 : tie.Need-clip-if-requires-2
+clip-if-requires-2 c κs = search needs
 
-slice-read-clipped : tie.Need-slice-read-clipped Inv-loop μ-loop
-slice-read-clipped c = omega arith
+clip-if-requires-3 : tie.Need-clip-if-requires-3
+clip-if-requires-3 c κs = search needs
 
-clipped-requires : tie.Need-clipped-requires Inv-loop μ-loop
-clipped-requires c κs = search needs
+same-length : tie.Need-same-length
+same-length c = search needs
 
-mul-samples : tie.Need-mul-samples Inv-loop μ-loop
-mul-samples c = omega arith
+same-length-2 : tie.Need-same-length-2
+same-length-2 c = search needs
 
-slice-write-samples : tie.Need-slice-write-samples Inv-loop μ-loop
-slice-write-samples c = omega arith
+same-length-3 : tie.Need-same-length-3
+same-length-3 c = search needs
 
-add-i : tie.Need-add-i Inv-loop μ-loop
-add-i c = omega arith
-
-loop-less : tie.Need-loop-less Inv-loop μ-loop
-loop-less c = omega arith
-
-loop-again : tie.Need-loop-again Inv-loop μ-loop
-loop-again c =
-    let l = c .before .before .before in
-    map-write clipOf (l .loop .inv) nan (c .clipped .result) (omega arith) (c .clipped .ensures)
-
-same-length : tie.Need-same-length Inv-loop μ-loop
-same-length c = c .before .loop .inv .long
-
-returns : tie.Need-returns Inv-loop μ-loop
-returns c = ended (c .before .loop .inv) (omega arith)
+returns-2 : tie.Need-returns-2
+returns-2 c =
+    let on-c = c .before .before in
+    let on-b = on-c .before .before .before .before in
+    let on-a = on-b .before .before .before .before in
+    let t = on-a .before .before in
+    let e = sym (t .before .same-lengths .ensures) ∙ not-false _ (t .if1 .left) in
+    (rw e, rw (e, on-a .clip-if .ensures, on-b .clip-if2 .ensures, on-c .clip-if3 .ensures))
 
 pub clip-spec : {M : Type 1} → statement M
-clip-spec = tie.close (tie.spec Inv-loop μ-loop loop-holds mul-clipped slice-read-clipped clipped-requires mul-samples slice-write-samples add-i loop-less loop-again same-length returns)
+clip-spec =
+    tie.close
+    (tie.spec
+    same-lengths-requires
+    returns
+    clip-if-requires
+    clip-if-requires-2
+    clip-if-requires-3
+    same-length
+    same-length-2
+    same-length-3
+    returns-2)

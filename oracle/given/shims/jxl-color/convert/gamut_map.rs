@@ -14,7 +14,7 @@ pub fn gamut_map(
     _luminances: [f32; 3],
     _saturation_factor: f32,
 ) {
-    unimplemented!("gamut_map is not in the given text");
+    crate::cms::door::called("gamut_map");
 }
 
 impl ColorTransform {

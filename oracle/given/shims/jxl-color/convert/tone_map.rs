@@ -11,7 +11,7 @@ pub fn tone_map(
     _target_display_luminance: f32,
     _detect_peak: bool,
 ) {
-    unimplemented!("tone_map is not in the given text");
+    crate::cms::door::called("tone_map");
 }
 
 pub fn tone_map_luma(
@@ -20,5 +20,5 @@ pub fn tone_map_luma(
     _target_display_luminance: f32,
     _detect_peak: bool,
 ) {
-    unimplemented!("tone_map_luma is not in the given text");
+    crate::cms::door::called("tone_map_luma");
 }

@@ -1,0 +1,174 @@
+-- `apply` is `afterOp`, and answers the width that the table gives.
+-- Each arm is its op's step; the last changes nothing.
+use Prim.Native.Nat.{ℕ}
+use mathlib.Core.Path.{ap, _∙_}
+use borrow.Author.Needs.{needs}
+use Rattle.channels.specs.Channels.{channels}
+use Rattle.channels.specs.Stepping.{stepOf}
+use Rattle.apply.proofs.Untouched.{untouched}
+use Rattle.apply.proofs.apply.Statement.{statement}
+use Rattle.apply.proofs.apply.Tie as tie
+
+enum-known-op : tie.Need-enum-known-op
+enum-known-op c = search needs
+
+xyb-to-mixed-lms-requires : tie.Need-xyb-to-mixed-lms-requires
+xyb-to-mixed-lms-requires c κs = search needs
+
+enum-known-op-2 : tie.Need-enum-known-op-2
+enum-known-op-2 c = search needs
+
+luma-to-xyz-requires : tie.Need-luma-to-xyz-requires
+luma-to-xyz-requires c κs = search needs
+
+enum-told : tie.Need-enum-told
+enum-told c = search needs
+
+xyz-to-luma-requires : tie.Need-xyz-to-luma-requires
+xyz-to-luma-requires c κs = search needs
+
+enum-known-op-3 : tie.Need-enum-known-op-3
+enum-known-op-3 c = search needs
+
+matrix-requires : tie.Need-matrix-requires
+matrix-requires c κs = search needs
+
+enum-told-2 : tie.Need-enum-told-2
+enum-told-2 c = search needs
+
+clip-requires : tie.Need-clip-requires
+clip-requires c κs = search needs
+
+gives-requires : tie.Need-gives-requires
+gives-requires c κs = search needs
+
+unchanged-requires : tie.Need-unchanged-requires
+unchanged-requires c κs = search needs
+
+same-length : tie.Need-same-length
+same-length c = search needs
+
+same-length-2 : tie.Need-same-length-2
+same-length-2 c = search needs
+
+same-length-3 : tie.Need-same-length-3
+same-length-3 c = search needs
+
+returns : tie.Need-returns
+returns c =
+    let m = c .before .before .before .before .before .before in
+    rw (m .before .before .before .before .before .op .given .1) (m .xyb-to-mixed-lms .ensures)
+
+same-length-4 : tie.Need-same-length-4
+same-length-4 c = search needs
+
+same-length-5 : tie.Need-same-length-5
+same-length-5 c = search needs
+
+same-length-6 : tie.Need-same-length-6
+same-length-6 c = search needs
+
+returns-2 : tie.Need-returns-2
+returns-2 c =
+    let m = c .before .before .before .before .before .before in
+    rw (m .before .before .before .before .before .op2 .given .1) (m .luma-to-xyz .ensures)
+
+same-length-7 : tie.Need-same-length-7
+same-length-7 c = search needs
+
+same-length-8 : tie.Need-same-length-8
+same-length-8 c = search needs
+
+same-length-9 : tie.Need-same-length-9
+same-length-9 c = search needs
+
+returns-3 : tie.Need-returns-3
+returns-3 c =
+    let m = c .before .before in
+    rw (m .before .before .before .before .enum-told .given .1) (m .xyz-to-luma .ensures)
+
+same-length-10 : tie.Need-same-length-10
+same-length-10 c = search needs
+
+same-length-11 : tie.Need-same-length-11
+same-length-11 c = search needs
+
+same-length-12 : tie.Need-same-length-12
+same-length-12 c = search needs
+
+returns-4 : tie.Need-returns-4
+returns-4 c =
+    let m = c .before .before .before .before .before .before in
+    rw (m .before .before .before .before .before .op3 .given .1) (m .matrix .ensures)
+
+same-length-13 : tie.Need-same-length-13
+same-length-13 c = search needs
+
+same-length-14 : tie.Need-same-length-14
+same-length-14 c = search needs
+
+same-length-15 : tie.Need-same-length-15
+same-length-15 c = search needs
+
+returns-5 : tie.Need-returns-5
+returns-5 c =
+    let m = c .before .before .before .before .before .before in
+    rw (m .before .before .before .before .enum-told2 .given .1) (m .clip .ensures)
+
+same-length-16 : tie.Need-same-length-16
+same-length-16 c = search needs
+
+same-length-17 : tie.Need-same-length-17
+same-length-17 c = search needs
+
+same-length-18 : tie.Need-same-length-18
+same-length-18 c = search needs
+
+returns-6 : tie.Need-returns-6
+returns-6 c =
+    let g = c .before .before .before .before in
+    let m = g .before in
+    let z = m .before .before .before .before in
+    let s = channels (z .args .a .now) (z .args .b .now) (z .args .c .now) in
+    (c .unchanged .ensures ∙ ap (λ (w : ℕ). stepOf w s) (g .gives .ensures), untouched (z .args .op) (m .match .keys6) (z .args .width) s)
+
+pub apply-spec : {M : Type 1} → statement M
+apply-spec =
+    tie.close
+    (tie.spec
+    enum-known-op
+    xyb-to-mixed-lms-requires
+    enum-known-op-2
+    luma-to-xyz-requires
+    enum-told
+    xyz-to-luma-requires
+    enum-known-op-3
+    matrix-requires
+    enum-told-2
+    clip-requires
+    gives-requires
+    unchanged-requires
+    same-length
+    same-length-2
+    same-length-3
+    returns
+    same-length-4
+    same-length-5
+    same-length-6
+    returns-2
+    same-length-7
+    same-length-8
+    same-length-9
+    returns-3
+    same-length-10
+    same-length-11
+    same-length-12
+    returns-4
+    same-length-13
+    same-length-14
+    same-length-15
+    returns-5
+    same-length-16
+    same-length-17
+    same-length-18
+    returns-6)

@@ -1,0 +1,2 @@
+-- What an op makes of the channels.
+pub mod Apply

@@ -1,0 +1,55 @@
+-- `put` meets its contract.
+-- The bytes are copied into the part of the buffer from that place on, where it is long enough.
+use native.Mathlib.Omega.{arith}
+use borrow.Author.Needs.{needs}
+use Rattle.buffer.proofs.Putting.{put-there, no-room}
+use Rattle.buffer.proofs.put.Statement.{statement}
+use Rattle.buffer.proofs.put.Tie as tie
+
+returns : tie.Need-returns
+returns c = let a = c .before .before .before .args in no-room (a .out .now) (a .at) (a .text .now) (omega arith)
+
+sub-if2 : tie.Need-sub-if2
+sub-if2 c = search needs
+
+returns-2 : tie.Need-returns-2
+returns-2 c = let a = c .before .before .before .before .args in no-room (a .out .now) (a .at) (a .text .now) (omega arith)
+
+sub-copy : tie.Need-sub-copy
+sub-copy c = search needs
+
+part-copy-start : tie.Need-part-copy-start
+part-copy-start c = search needs
+
+part-copy-end : tie.Need-part-copy-end
+part-copy-end c = search needs
+
+copy-requires : tie.Need-copy-requires
+copy-requires c κs = search needs
+
+add-result : tie.Need-add-result
+add-result c = search needs
+
+same-length : tie.Need-same-length
+same-length c = search needs
+
+returns-3 : tie.Need-returns-3
+returns-3 c =
+    let e = c .before .before in
+    let z = e .before .before .before .before .before .before in
+    put-there (z .args .out .now) (z .args .at) (z .args .text .now) (record { enough = omega arith }) (e .copy .ensures .0) (e .copy .ensures .1)
+
+pub put-spec : {M : Type 1} → statement M
+put-spec =
+    tie.close
+    (tie.spec
+    returns
+    sub-if2
+    returns-2
+    sub-copy
+    part-copy-start
+    part-copy-end
+    copy-requires
+    add-result
+    same-length
+    returns-3)

@@ -1,0 +1,78 @@
+-- The end width of a list: that which the check tells, and 0 exactly where the check refuses it; and that of a list that goes on.
+-- Op by op. An op that finds width 0 gives 0 or fails, so a list that has failed stays at 0.
+use Prim.Native.Nat.{ℕ, _+_, _≤_}
+use mathlib.Core.Path.{_≡_, refl, ap, sym, _∙_}
+use mathlib.Core.Bool.{Bool, true, false}
+use mathlib.Core.List.{List, [], _∷_, _++_}
+use Rattle.notation.specs.Choice.{if_then_else_}
+use Rattle.notation.specs.declared.Answer.{Answer}
+use Rattle.op.specs.Widths.{fitsAt, givesOf}
+use Rattle.op.specs.declared.Curve.{Curve}
+use Rattle.op.specs.declared.Curve.the-variants as C
+use Rattle.op.specs.declared.HdrParams.{HdrParams}
+use Rattle.op.specs.declared.Op.{Op}
+use Rattle.op.specs.declared.Op.the-variants as O
+use Rattle.list.specs.Lists.{lawful, opsOf}
+use Rattle.list.specs.Answer.{paper}
+use Rattle.list.specs.Check.{checkFrom, checkOf}
+use Rattle.list.specs.Ends.{endFrom, endOf}
+use Rattle.list.specs.declared.Plan.{Plan}
+use Rattle.list.specs.declared.Verdict.{Verdict}
+use Rattle.list.specs.declared.Verdict.the-variants.{Malformed, Misfit}
+
+told-from : (os : List Op) (w i : ℕ) → paper (checkFrom w i os) .width ≡ endFrom w os
+told-from [] w i = refl
+told-from (o ∷ os) w i = by (fitsAt o w) (checkFrom (givesOf o w) (i + 1) os) (told-from os (givesOf o w) (i + 1))
+  where
+    by : (b : Bool) (v : Verdict) {n : ℕ} → paper v .width ≡ n → paper (if b then v else Misfit i) .width ≡ (if b then n else 0)
+    by true v e = e
+    by false v e = refl
+
+-- the width that the check tells is the end width
+pub told : (p : Plan) → paper (checkOf p) .width ≡ endOf p
+told p = by (lawful p) (checkFrom (p .start) 0 (opsOf p)) (told-from (opsOf p) (p .start) 0)
+  where
+    by : (b : Bool) (v : Verdict) {n : ℕ} → paper v .width ≡ n → paper (if b then v else Malformed) .width ≡ (if b then n else 0)
+    by true v e = e
+    by false v e = refl
+
+-- ---- a list that has failed stays at 0
+
+curve-at-0 : (c : Curve) (p : HdrParams) (i : Bool) → (if fitsAt (O.TransferFunction c p i) 0 then givesOf (O.TransferFunction c p i) 0 else 0) ≡ 0
+curve-at-0 (C.Gamma g j) p i = refl
+curve-at-0 C.Bt709 p i = refl
+curve-at-0 C.Unknown p i = refl
+curve-at-0 C.Linear p i = refl
+curve-at-0 C.Srgb p i = refl
+curve-at-0 C.Pq p i = refl
+curve-at-0 C.Dci p i = refl
+curve-at-0 C.Hlg p i = refl
+
+op-at-0 : (o : Op) → (if fitsAt o 0 then givesOf o 0 else 0) ≡ 0
+op-at-0 (O.XybToMixedLms b i) = refl
+op-at-0 (O.LumaToXyz x) = refl
+op-at-0 O.XyzToLuma = refl
+op-at-0 (O.Matrix m) = refl
+op-at-0 (O.TransferFunction c p i) = curve-at-0 c p i
+op-at-0 (O.HlgInverseOotf p) = refl
+op-at-0 (O.ToneMapRec2408 p d b) = refl
+op-at-0 (O.ToneMapLumaRec2408 p d b) = refl
+op-at-0 (O.GamutMap l f) = refl
+op-at-0 O.Clip = refl
+
+pub failed-stays : (os : List Op) → endFrom 0 os ≡ 0
+failed-stays [] = refl
+failed-stays (o ∷ os) = by (fitsAt o 0) (op-at-0 o) (failed-stays os)
+  where
+    by : (b : Bool) → (if b then givesOf o 0 else 0) ≡ 0 → endFrom 0 os ≡ 0 → (if b then endFrom (givesOf o 0) os else 0) ≡ 0
+    by true e f = ap (λ (w : ℕ). endFrom w os) e ∙ f
+    by false e f = refl
+
+-- a list that goes on ends where its last part does, entered at the end of the first
+pub goes-on : (xs ys : List Op) (w : ℕ) → endFrom w (xs ++ ys) ≡ endFrom (endFrom w xs) ys
+goes-on [] ys w = refl
+goes-on (x ∷ xs) ys w = by (fitsAt x w) (endFrom (givesOf x w) xs) (goes-on xs ys (givesOf x w))
+  where
+    by : (b : Bool) {m : ℕ} (n : ℕ) → m ≡ endFrom n ys → (if b then m else 0) ≡ endFrom (if b then n else 0) ys
+    by true n e = e
+    by false n e = sym (failed-stays ys)

@@ -1,3 +1,0 @@
--- Laws of reading samples, and what the contracts determine.
-pub mod Reading
-pub mod Determined

@@ -1,4 +1,0 @@
--- What several words of a record stand for.
-pub mod Words
-pub mod Samples
-pub mod Colours

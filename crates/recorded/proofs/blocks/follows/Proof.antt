@@ -1,0 +1,72 @@
+-- `follows` is safe and ends.
+-- The rest is as long as the bytes after the first `used`, and each turn comes nearer to its end.
+use Prim.Native.Nat.{_≤_, _-_}
+use lib.ListN.{length}
+use borrow.Author.Needs.{needs}
+use Rattle.recorded.proofs.blocks.follows.Statement.{statement}
+use Rattle.recorded.proofs.blocks.follows.Tie as tie
+
+abbrev Inv-loop : tie.InvT-loop
+Inv-loop rest bytes used tail i₀ i = i ≤ length rest
+
+abbrev μ-loop : tie.MeasureT-loop
+μ-loop rest bytes used tail i₀ i = length rest - i
+
+returns : tie.Need-returns Inv-loop μ-loop
+returns c = search needs
+
+sub-tail : tie.Need-sub-tail Inv-loop μ-loop
+sub-tail c = search needs
+
+part-tail-start : tie.Need-part-tail-start Inv-loop μ-loop
+part-tail-start c = search needs
+
+part-tail-end : tie.Need-part-tail-end Inv-loop μ-loop
+part-tail-end c = search needs
+
+returns-2 : tie.Need-returns-2 Inv-loop μ-loop
+returns-2 c = search needs
+
+loop-holds : tie.Need-loop-holds Inv-loop μ-loop
+loop-holds c = search needs
+
+shared-slice-read-if3 : tie.Need-shared-slice-read-if3 Inv-loop μ-loop
+shared-slice-read-if3 c = search needs
+
+shared-slice-read-if3-2 : tie.Need-shared-slice-read-if3-2 Inv-loop μ-loop
+shared-slice-read-if3-2 c = search needs
+
+returns-3 : tie.Need-returns-3 Inv-loop μ-loop
+returns-3 c = search needs
+
+add-i : tie.Need-add-i Inv-loop μ-loop
+add-i c = search needs
+
+loop-less : tie.Need-loop-less Inv-loop μ-loop
+loop-less c = search needs
+
+loop-again : tie.Need-loop-again Inv-loop μ-loop
+loop-again c = search needs
+
+returns-4 : tie.Need-returns-4 Inv-loop μ-loop
+returns-4 c = search needs
+
+pub follows-spec : {M : Type 1} → statement M
+follows-spec =
+    tie.close
+    (tie.spec
+    Inv-loop
+    μ-loop
+    returns
+    sub-tail
+    part-tail-start
+    part-tail-end
+    returns-2
+    loop-holds
+    shared-slice-read-if3
+    shared-slice-read-if3-2
+    returns-3
+    add-i
+    loop-less
+    loop-again
+    returns-4)

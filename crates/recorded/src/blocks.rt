@@ -1,0 +1,71 @@
+// Plan blocks: n, the n bytes, four to a word; number, bytes of rest, start width and list.
+use record::from_word;
+
+// More bytes than a record has room for.
+const ROOM: usize = 2048;
+
+// Byte i of these words, the first of each word in its highest two digits.
+fn byte_at(words: &[u8], i: usize) -> u8 {
+    let word = record::word(words, i / 4);
+    match i % 4 {
+        0 => (word / 0x100_0000) as u8,
+        1 => (word / 0x1_0000 % 0x100) as u8,
+        2 => (word / 0x100 % 0x100) as u8,
+        _ => (word % 0x100) as u8,
+    }
+}
+
+fn read_bytes(words: &[u8], bytes: &mut [u8]) {
+    let mut i: usize = 0;
+    while i < bytes.len() {
+        bytes[i] = byte_at(words, i);
+        i += 1;
+    }
+}
+
+// Whether the rest is what follows the first `used` bytes.
+fn follows(rest: &[u8], bytes: &[u8], used: usize) -> bool {
+    if bytes.len() < used {
+        return false;
+    }
+    let tail = &bytes[used..];
+    if rest.len() != tail.len() {
+        return false;
+    }
+    let mut i: usize = 0;
+    while i < rest.len() {
+        if rest[i] != tail[i] {
+            return false;
+        }
+        i += 1;
+    }
+    true
+}
+
+// Reads the block and compares what is found with the answer: number, bytes of rest, start width and list.
+fn reads(bytes: &[u8], answer: &[u8]) -> bool {
+    let found = record::list_at(answer, 2, 3);
+    if found.next != record::words(answer) {
+        return false;
+    }
+    let list = found.list;
+    let read = block::read(bytes);
+    let reached = read.answer;
+    let plan = read.plan;
+    let rest = block::rest(bytes);
+    block::paper(reached).number as u32 == record::word(answer, 0)
+        && rest.len() == record::word(answer, 1) as usize
+        && same::same_list(plan, list)
+        && follows(rest, bytes, read.used)
+}
+
+pub(crate) fn same_block(words: &[u8]) -> bool {
+    let n = record::word(words, 0) as usize;
+    if n > ROOM {
+        return false;
+    }
+    let mut room = [0u8; ROOM];
+    let bytes = &mut room[..n];
+    read_bytes(from_word(words, 1), bytes);
+    reads(bytes, from_word(words, 1 + (n + 3) / 4))
+}

@@ -1,0 +1,147 @@
+// One example of each refusal: what was given, and the number and position that the library answers.
+use ciexyz::Millionths;
+use ciexyz::Primaries;
+use ciexyz::Vec3;
+use ciexyz::WhitePoint;
+use encoding::ColourEncoding;
+use encoding::ColourSpace;
+use encoding::EnumColourEncoding;
+use encoding::RenderingIntent;
+use encoding::Settings;
+use libc::STDOUT_FILENO;
+use list::Plan;
+use notation::Answer;
+use op::Curve;
+use op::Op;
+
+// None of them matters here.
+fn settings() -> Settings {
+    Settings {
+        inv_mat: ciexyz::adapt_mat(WhitePoint::D65, WhitePoint::D65),
+        opsin_bias: Vec3 {
+            v0: 0.0,
+            v1: 0.0,
+            v2: 0.0,
+        },
+        intensity_target: 255.0,
+        min_nits: 0.0,
+        detect_peak: false,
+        from_pq: false,
+    }
+}
+
+fn side(colour_space: ColourSpace, white_point: WhitePoint, tf: Curve) -> ColourEncoding {
+    ColourEncoding::Enum(EnumColourEncoding {
+        colour_space,
+        white_point,
+        primaries: Primaries::Srgb,
+        tf,
+        rendering_intent: RenderingIntent::Relative,
+    })
+}
+
+fn show(given: &[u8], answer: Answer) {
+    io::write_all(STDOUT_FILENO, given);
+    if answer.number == 0 {
+        io::write_all(STDOUT_FILENO, b": done\n");
+        return;
+    }
+    io::write_all(STDOUT_FILENO, b": refused ");
+    io::print_decimal(STDOUT_FILENO, answer.number as u64);
+    if answer.number == 5 || answer.number == 6 {
+        io::write_all(STDOUT_FILENO, b" at ");
+        io::print_decimal(STDOUT_FILENO, answer.position as u64);
+    }
+    io::write_all(STDOUT_FILENO, b"\n");
+}
+
+fn show_plan(given: &[u8], source: ColourEncoding, target: ColourEncoding) {
+    let planned = planner::plan(source, target, settings());
+    let reached = planned.answer;
+    show(given, planner::paper(reached));
+}
+
+// 1, 2 and 3.
+fn plans() {
+    let rgb = side(ColourSpace::Rgb, WhitePoint::D65, Curve::Linear);
+    show_plan(
+        b"a plan from an ICC profile",
+        ColourEncoding::IccProfile,
+        rgb,
+    );
+    let nowhere = WhitePoint::Custom(Millionths {
+        x: 9_000_000,
+        y: 329_000,
+    });
+    show_plan(
+        b"a plan from a white point at x = 9",
+        side(ColourSpace::Rgb, nowhere, Curve::Linear),
+        rgb,
+    );
+    show_plan(
+        b"a plan from an unknown colour space",
+        side(ColourSpace::Unknown, WhitePoint::D65, Curve::Linear),
+        rgb,
+    );
+}
+
+// Runs the list on three channels, the last of them of these samples.
+fn show_run(given: &[u8], plan: Plan, c: &mut [f32]) {
+    let mut a: [f32; 3] = [0.5, 0.5, 0.5];
+    let mut b: [f32; 3] = [0.5, 0.5, 0.5];
+    show(given, run::paper(run::run(plan, &mut a, &mut b, c)));
+}
+
+// 4, 5 and 6.
+fn runs() {
+    let mut two: [f32; 2] = [0.5, 0.5];
+    let mut three: [f32; 3] = [0.5, 0.5, 0.5];
+    let clip = list::push(list::empty(3), Op::Clip);
+    show_run(b"a run on three, three and two samples", clip, &mut two);
+    let luma = list::push(list::empty(3), Op::XyzToLuma);
+    show_run(
+        b"a run of XyzToLuma and again of XyzToLuma, which needs three channels",
+        list::push(luma, Op::XyzToLuma),
+        &mut three,
+    );
+    let planned = planner::plan(
+        side(ColourSpace::Rgb, WhitePoint::D65, Curve::Linear),
+        side(ColourSpace::Rgb, WhitePoint::D65, Curve::Srgb),
+        settings(),
+    );
+    let plan = planned.plan;
+    show_run(
+        b"a run of a plan to sRGB, whose curve is not carried",
+        plan,
+        &mut three,
+    );
+}
+
+fn show_block(given: &[u8], bytes: &[u8]) {
+    let read = block::read(bytes);
+    let reached = read.answer;
+    show(given, block::paper(reached));
+}
+
+// 7, 8, 9 and 10.
+fn blocks() {
+    show_block(
+        b"a block whose last op is cut off",
+        &[0x43, 0x54, 0x50, 1, 0, 1, 2, 9],
+    );
+    show_block(b"a block of version 2", &[0x43, 0x54, 0x50, 2, 0, 1, 1, 9]);
+    show_block(
+        b"a block with an op of kind 10",
+        &[0x43, 0x54, 0x50, 1, 0, 1, 1, 10],
+    );
+    show_block(
+        b"a block of start width 2",
+        &[0x43, 0x54, 0x50, 1, 0, 2, 1, 9],
+    );
+}
+
+fn main() {
+    plans();
+    runs();
+    blocks();
+}
