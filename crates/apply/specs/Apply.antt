@@ -7,8 +7,8 @@ use Rattle.steps.specs.Samples.{xyzOfLuma, lumaOfXyz, clippedWithin}
 use Rattle.op.specs.declared.Op.{Op}
 use Rattle.op.specs.declared.Op.the-variants as O
 
--- the channels after an op at width w: "TransferFunction Linear or Unknown (no effect)", and none of the ops that are not carried,
--- which a run refuses
+-- the channels after an op at width w: "TransferFunction Linear or Unknown (no effect)"; the other ops that leave them as they are
+-- are not carried, and a run refuses a list that has one
 abbrev pub afterOp : Op → ℕ → Channels → Channels
 afterOp (O.XybToMixedLms bias intensity) w s = each (mixedLms bias intensity) s
 afterOp (O.LumaToXyz illuminant) w s = each (xyzOfLuma illuminant) s

@@ -7,7 +7,7 @@ ghost use Rattle.apply.specs.Apply.{afterOp};
 use channels::Stepping;
 use op::Op;
 
-// The op's own step. A curve that is carried has no effect, and no other op has: a run refuses a list that has one that is not carried.
+// The op's own step. TransferFunction Linear or Unknown has no effect; nor has an op that is not carried: a run refuses its list.
 pub fn apply(op: Op, width: u8, a: &mut [f32], b: &mut [f32], c: &mut [f32]) -> Stepping
     ensures { λ r. ⌜ r ≡ stepOf (givesOf op width) (channels (now (a .entry)) (now (b .entry)) (now (c .entry))) ⌝ }
     ensures { λ _. ⌜ channels (now (a .exit)) (now (b .exit)) (now (c .exit)) ≡ whereEqual (afterOp op width) (channels (now (a .entry)) (now (b .entry)) (now (c .entry))) ⌝ }

@@ -1,6 +1,4 @@
 // Replays the recorded answers on standard input: of each kind, how many ran and how many differ; and the first that differs.
-mod lines; // lines.rt: standard input, line by line
-
 ghost use Prim.Native.Nat.{_<_};
 use libc::STDOUT_FILENO;
 

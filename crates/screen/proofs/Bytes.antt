@@ -1,8 +1,8 @@
 -- The whole part of a float, by the tests against 1 and 256.
 -- By cases on the float; a finite one is compared by cross multiplication, and its whole part is the quotient.
+use Prim.Native.Nat.{_*_, _+_, _/_, _<_, ℕ, _≤_}
 use mathlib.Core.Path.{refl, sym, _∙_, _≡_}
 use mathlib.Core.Bool.{false, false≢true, not, true, true≢false}
-use Prim.Native.Nat.{_*_, _+_, _/_, _<_, ℕ, _≤_}
 use native.Mathlib.Nat.{div-eq-of-lt, div-lt-iff-lt-mul, le-div-iff-mul-le, le-of-suc-le-suc, le-trans, min-eq-left, min-eq-right}
 use native.Mathlib.Omega.{arith}
 use borrow.Author.Tests.{lt-ltb, ltb-false, ltb-true}

@@ -74,12 +74,21 @@ fn picture() {
     let source = side(ColourSpace::Xyb, WhitePoint::D65, Curve::Linear);
     let target = side(ColourSpace::Rgb, WhitePoint::D65, Curve::Linear);
     let planned = planner::plan(source, target, settings(255.0, false));
+    let reached = planned.answer;
+    if planner::paper(reached).number != 0 {
+        io::write_all(STDOUT_FILENO, b"the plan is refused\n");
+        return;
+    }
     let plan = planned.plan;
     print_plan(b"Xyb to Rgb, intensity 255\n", plan);
     let mut a: [f32; 3] = [0.0, 0.01979, 0.0];
     let mut b: [f32; 3] = [0.8453, 0.37586, 0.0];
     let mut c: [f32; 3] = [0.8453, 0.36405, 0.0];
-    run::run(plan, &mut a, &mut b, &mut c);
+    let ended = run::paper(run::run(plan, &mut a, &mut b, &mut c));
+    if ended.number != 0 || ended.width != 3 {
+        io::write_all(STDOUT_FILENO, b"the run is refused\n");
+        return;
+    }
     let mut red = [0u8; 3];
     let mut green = [0u8; 3];
     let mut blue = [0u8; 3];

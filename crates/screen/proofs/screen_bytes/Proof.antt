@@ -1,8 +1,8 @@
 -- `screen_bytes` makes the byte of each sample where there are as many bytes, and changes nothing where there are not.
 -- The test of the lengths decides; the loop argument is `Rewriting`'s, for the mapped list.
+use Prim.Native.Nat.{_-_, _<_}
 use mathlib.Core.Path.{sym, _∙_}
 use mathlib.Core.List.{map}
-use Prim.Native.Nat.{_-_, _<_}
 use native.Mathlib.Omega.{arith}
 use borrow.Author.Needs.{needs}
 use borrow.Author.Tests.{eq-eqb, ne-eqb}

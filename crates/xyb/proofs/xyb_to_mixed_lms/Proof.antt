@@ -1,8 +1,8 @@
 -- `xyb_to_mixed_lms` inverts each triple where the lengths are equal, and changes nothing where they are not.
 -- The test of the lengths decides; the loop argument is `InStep`'s, and the roots are `rootsOf` the biases.
+use Prim.Native.Nat.{_-_}
 use mathlib.Core.Path.{_≡_, sym, _∙_}
 use mathlib.Core.Bool.{true}
-use Prim.Native.Nat.{_-_}
 use native.Mathlib.Omega.{arith}
 use borrow.Author.Needs.{needs}
 use borrow.Author.Tests.{not-false, not-true}
@@ -24,9 +24,7 @@ same-lengths-requires : tie.Need-same-lengths-requires Inv-loop μ-loop
 same-lengths-requires c κs = search needs
 
 returns : tie.Need-returns Inv-loop μ-loop
-returns c =
-    let e = sym (c .before .same-lengths .ensures) ∙ not-true _ (c .if1 .taken) in
-    (rw e, rw e)
+returns c = let e = sym (c .before .same-lengths .ensures) ∙ not-true _ (c .if1 .taken) in (rw e, rw e)
 
 equal : (c : tie.Else1 Inv-loop μ-loop) → let z = c .before .before .before .before .before in equallyLong (channels (z .args .x .now) (z .args .y .now) (z .args .b .now)) ≡ true
 equal c = sym (c .before .same-lengths .ensures) ∙ not-false _ (c .if1 .left)

@@ -10,9 +10,7 @@ same-lengths-requires : tie.Need-same-lengths-requires
 same-lengths-requires c κs = search needs
 
 returns : tie.Need-returns
-returns c =
-    let e = sym (c .before .same-lengths .ensures) ∙ not-true _ (c .if1 .taken) in
-    (rw e, rw e)
+returns c = let e = sym (c .before .same-lengths .ensures) ∙ not-true _ (c .if1 .taken) in (rw e, rw e)
 
 clip-if-requires : tie.Need-clip-if-requires
 clip-if-requires c κs = search needs

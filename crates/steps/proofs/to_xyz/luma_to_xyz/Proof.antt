@@ -24,9 +24,7 @@ same-lengths-requires : tie.Need-same-lengths-requires Inv-loop μ-loop
 same-lengths-requires c κs = search needs
 
 returns : tie.Need-returns Inv-loop μ-loop
-returns c =
-    let e = sym (c .before .same-lengths .ensures) ∙ not-true _ (c .if1 .taken) in
-    (rw e, rw e)
+returns c = let e = sym (c .before .same-lengths .ensures) ∙ not-true _ (c .if1 .taken) in (rw e, rw e)
 
 equal : (c : tie.Else1 Inv-loop μ-loop) → let z = c .before .before .before .before .before in equallyLong (channels (z .args .a .now) (z .args .b .now) (z .args .c .now)) ≡ true
 equal c = sym (c .before .same-lengths .ensures) ∙ not-false _ (c .if1 .left)

@@ -6,8 +6,8 @@ use native.Mathlib.Omega.{arith}
 use lib.ListN.{length}
 use lib.Seq.{length-take-le}
 use borrow.Author.Needs.{needs}
-use Rattle.replay.proofs.lines.next_in.Statement.{statement}
-use Rattle.replay.proofs.lines.next_in.Tie as tie
+use Rattle.lines.proofs.next_in.Statement.{statement}
+use Rattle.lines.proofs.next_in.Tie as tie
 
 ended-requires : tie.Need-ended-requires
 ended-requires c κs = search needs

@@ -2,10 +2,10 @@
 -- What a read brings has room behind what was left.
 use mathlib.Core.Path.{ap}
 use native.Mathlib.Omega.{arith}
-use Rattle.replay.specs.Turns.{countOf}
+use Rattle.lines.specs.Turns.{countOf}
 use borrow.Author.Needs.{needs}
-use Rattle.replay.proofs.lines.read_on.Statement.{statement}
-use Rattle.replay.proofs.lines.read_on.Tie as tie
+use Rattle.lines.proofs.read_on.Statement.{statement}
+use Rattle.lines.proofs.read_on.Tie as tie
 
 to-front-requires : tie.Need-to-front-requires
 to-front-requires c κs = search needs

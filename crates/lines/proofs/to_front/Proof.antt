@@ -4,8 +4,8 @@ use Prim.Native.Nat.{_≤_, _-_}
 use mathlib.Core.Path.{_≡_}
 use lib.ListN.{length}
 use borrow.Author.Needs.{needs}
-use Rattle.replay.proofs.lines.to_front.Statement.{statement}
-use Rattle.replay.proofs.lines.to_front.Tie as tie
+use Rattle.lines.proofs.to_front.Statement.{statement}
+use Rattle.lines.proofs.to_front.Tie as tie
 
 abbrev Inv-loop : tie.InvT-loop
 Inv-loop buf₀ from to n i₀ buf i = (i ≤ n) × (length buf ≡ length buf₀)

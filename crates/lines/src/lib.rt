@@ -2,7 +2,7 @@
 ghost use mathlib.Core.Path.{_≡_};
 ghost use Prim.Native.Nat.{_+_, _≤_, _<_};
 ghost use lib.ListN.{length};
-ghost use Rattle.replay.specs.Turns.{Falls, countOf};
+ghost use Rattle.lines.specs.Turns.{Falls, countOf};
 use libc::STDIN_FILENO;
 
 // How far a program is with its input: the line in hand, if it has one, is the bytes from start to end of its buffer, and
@@ -17,7 +17,7 @@ pub struct Progress {
     pub turns: u64,
 }
 
-pub(crate) fn begun() -> Progress {
+pub fn begun() -> Progress {
     Progress {
         has_line: false,
         start: 0,
@@ -43,7 +43,7 @@ fn line_end(s: &[u8], from: usize) -> usize
 }
 
 // Finds the next line, or else reads on. Where the input ends, what is left is a line too.
-pub(crate) fn next(buf: &mut [u8; 65536], p: Progress) -> Progress
+pub fn next(buf: &mut [u8; 65536], p: Progress) -> Progress
     ensures { λ r. ⌜ Falls p r ⌝ }
 {
     next_in(buf, p)
@@ -176,7 +176,7 @@ fn to_front(buf: &mut [u8], from: usize, to: usize)
 }
 
 // The line in hand; nothing where there is none.
-pub(crate) fn line(buf: &[u8; 65536], p: Progress) -> &[u8] {
+pub fn line(buf: &[u8; 65536], p: Progress) -> &[u8] {
     line_in(buf, p)
 }
 
