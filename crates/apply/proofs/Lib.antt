@@ -1,5 +1,6 @@
--- Theorems: Even (an op leaves equally long channels equally long), Determined.
+-- Theorems: Even (an op leaves equally long channels equally long), Joining (it does to joined channels what it does to each), Determined.
 pub mod Even
+pub mod Joining
 pub mod Determined
 -- the ops that change nothing
 pub mod Untouched

@@ -5,6 +5,8 @@ pub mod Determined
 pub mod Rows
 pub mod Across
 pub mod InStep
+-- channels one after the other
+pub mod Joining
 -- the test of three lengths, and answers that a test chooses
 pub mod Lengths
 pub mod Choosing

@@ -53,7 +53,7 @@ module _ (p : Plan) where
   unfolding appended
   refused e os = rw e
 
-  few : lawful p ≡ true → length (opsOf p) ≤ p .count
+  pub few : lawful p ≡ true → length (opsOf p) ≤ p .count
   few e = omega (arith, length-map (take (p .count) (p .ops)) opOf, length-take (p .count) (p .ops))
 
   pub counted : length (p .ops) ≡ 32 → p .count ≤ 32 → length (opsOf p) ≡ p .count

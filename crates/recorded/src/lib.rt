@@ -1,6 +1,7 @@
 // Recorded answers compared with ours, by the kind of the record, which is its first word.
 mod blocks;
 mod conversions;
+mod cuts; // cuts.rt: runs by strips
 mod lists;
 mod matrices;
 mod plans;
@@ -42,6 +43,8 @@ const YCBCR: u32 = 16;
 
 const BLOCK: u32 = 17;
 
+const STRIPS: u32 = 19;
+
 fn same_matrix(kind: u32, words: &[u8]) -> bool {
     match kind {
         MATMUL3 => matrices::same_matmul3(words),
@@ -71,7 +74,8 @@ pub fn same(line: &[u8]) -> bool {
         YCBCR => conversions::same_ycbcr(words),
         PLAN => plans::same_plan(words),
         MERGE => lists::same_merged(words),
-        RUN => lists::same_run(words),
+        RUN => lists::same_run(words, false),
+        STRIPS => lists::same_run(words, true),
         BLOCK => blocks::same_block(words),
         _ => same_matrix(kind, words),
     }

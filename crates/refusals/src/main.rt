@@ -140,8 +140,19 @@ fn blocks() {
     );
 }
 
+// 11.
+fn strips() {
+    let mut a: [f32; 1] = [0.5];
+    let mut b: [f32; 1] = [0.5];
+    let mut c: [f32; 1] = [0.5];
+    let given = strips::strip(strips::closed(), &mut a, &mut b, &mut c);
+    let stripped = given.answer;
+    show(b"a strip without an open run", strips::paper(stripped));
+}
+
 fn main() {
     plans();
     runs();
     blocks();
+    strips();
 }

@@ -69,18 +69,16 @@ fn print_bytes(red: u8, green: u8, blue: u8) {
     io::write_all(STDOUT_FILENO, b"\n");
 }
 
-// A white sample, one of a red box, and a black one, from XYB to linear RGB and to bytes for a screen.
-fn picture() {
-    let source = side(ColourSpace::Xyb, WhitePoint::D65, Curve::Linear);
-    let target = side(ColourSpace::Rgb, WhitePoint::D65, Curve::Linear);
-    let planned = planner::plan(source, target, settings(255.0, false));
-    let reached = planned.answer;
-    if planner::paper(reached).number != 0 {
-        io::write_all(STDOUT_FILENO, b"the plan is refused\n");
-        return;
-    }
-    let plan = planned.plan;
-    print_plan(b"Xyb to Rgb, intensity 255\n", plan);
+// A sample of each channel as bytes for a screen.
+fn print_sample(red: f32, green: f32, blue: f32) {
+    print_bytes(
+        screen::screen_byte(red),
+        screen::screen_byte(green),
+        screen::screen_byte(blue),
+    );
+}
+
+fn at_once(plan: Plan) {
     let mut a: [f32; 3] = [0.0, 0.01979, 0.0];
     let mut b: [f32; 3] = [0.8453, 0.37586, 0.0];
     let mut c: [f32; 3] = [0.8453, 0.36405, 0.0];
@@ -98,6 +96,46 @@ fn picture() {
     print_bytes(red[0], green[0], blue[0]);
     print_bytes(red[1], green[1], blue[1]);
     print_bytes(red[2], green[2], blue[2]);
+}
+
+// The same three samples by two strips, of one and of two.
+fn by_strips(plan: Plan) {
+    let mut a: [f32; 1] = [0.0];
+    let mut b: [f32; 1] = [0.8453];
+    let mut c: [f32; 1] = [0.8453];
+    let mut d: [f32; 2] = [0.01979, 0.0];
+    let mut e: [f32; 2] = [0.37586, 0.0];
+    let mut f: [f32; 2] = [0.36405, 0.0];
+    let opened = strips::open(strips::closed(), plan);
+    let first = strips::strip(opened.state, &mut a, &mut b, &mut c);
+    let second = strips::strip(first.state, &mut d, &mut e, &mut f);
+    let closed = strips::close(second.state);
+    let answer = closed.answer;
+    let ended = strips::paper(answer);
+    if ended.number != 0 || ended.width != 3 {
+        io::write_all(STDOUT_FILENO, b"the run by strips is refused\n");
+        return;
+    }
+    io::write_all(STDOUT_FILENO, b"the same by strips\n");
+    print_sample(a[0], b[0], c[0]);
+    print_sample(d[0], e[0], f[0]);
+    print_sample(d[1], e[1], f[1]);
+}
+
+// A white sample, one of a red box, and a black one, from XYB to linear RGB and to bytes for a screen.
+fn picture() {
+    let source = side(ColourSpace::Xyb, WhitePoint::D65, Curve::Linear);
+    let target = side(ColourSpace::Rgb, WhitePoint::D65, Curve::Linear);
+    let planned = planner::plan(source, target, settings(255.0, false));
+    let reached = planned.answer;
+    if planner::paper(reached).number != 0 {
+        io::write_all(STDOUT_FILENO, b"the plan is refused\n");
+        return;
+    }
+    let plan = planned.plan;
+    print_plan(b"Xyb to Rgb, intensity 255\n", plan);
+    at_once(plan);
+    by_strips(plan);
 }
 
 fn is_identity(m: Mat3) -> bool {

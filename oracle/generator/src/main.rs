@@ -17,11 +17,12 @@ mod points;
 mod record;
 mod rng;
 mod run;
+mod strips;
 mod ycbcr;
 
 use std::io::{BufWriter, Write};
 
-const USAGE: &str = "usage: oracle fused|cbrt|ciexyz|plan|merge|run|ycbcr|block SEED COUNT, \
+const USAGE: &str = "usage: oracle fused|cbrt|ciexyz|plan|merge|run|strips|ycbcr|block SEED COUNT, \
                      or oracle cbrt-census, or oracle differences";
 
 fn number<T: std::str::FromStr>(word: Option<String>) -> T {
@@ -46,6 +47,7 @@ fn main() {
         "plan" => plan::write(rng, count, out),
         "merge" => merge::write(rng, count, out),
         "run" => run::write(rng, count, out),
+        "strips" => strips::write(rng, count, out),
         "ycbcr" => ycbcr::write(rng, count, out),
         "block" => block::write(rng, count, out),
         _ => panic!("{USAGE}"),

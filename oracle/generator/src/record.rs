@@ -23,6 +23,7 @@ pub enum Kind {
     Run = 15,
     Ycbcr = 16,
     Block = 17,
+    Strips = 19,
 }
 
 /// The longest line, with its newline.

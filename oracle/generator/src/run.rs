@@ -13,7 +13,7 @@ const LENGTHS: [usize; 18] = [
     0, 1, 2, 3, 4, 5, 7, 8, 9, 15, 16, 17, 31, 32, 33, 63, 64, 65,
 ];
 
-struct Case {
+pub struct Case {
     start: usize,
     ops: Vec<Op>,
     channels: [Vec<f32>; 3],
@@ -73,7 +73,7 @@ fn op(kind: u32, floats: &[f32]) -> Op {
         .collect()
 }
 
-fn random(rng: &mut Rng) -> Case {
+pub fn random(rng: &mut Rng) -> Case {
     let (start, ops) = carried(rng);
     let length = rng.length();
     Case {
@@ -84,17 +84,32 @@ fn random(rng: &mut Rng) -> Case {
 }
 
 fn record(case: &Case) -> Record {
-    let mut channels = case.channels.clone();
-    let record = Record::new(Kind::Run)
-        .words(&[case.start as u32, case.ops.len() as u32])
-        .words(&case.ops.concat())
-        .words(&[channels[0].len() as u32])
-        .floats(&channels.concat());
-    let [a, b, c] = &mut channels;
-    let width = list(case.start, &case.ops)
-        .run(&mut [a, b, c])
-        .expect("a run of carried ops");
-    record.words(&[width as u32]).floats(&channels.concat())
+    case.answered(case.asked(Kind::Run))
+}
+
+impl Case {
+    pub fn length(&self) -> usize {
+        self.channels[0].len()
+    }
+
+    /// The start width, the list and the channels.
+    pub fn asked(&self, kind: Kind) -> Record {
+        Record::new(kind)
+            .words(&[self.start as u32, self.ops.len() as u32])
+            .words(&self.ops.concat())
+            .words(&[self.length() as u32])
+            .floats(&self.channels.concat())
+    }
+
+    /// The width and the channels that the Rust's run ends with, after what was asked.
+    pub fn answered(&self, asked: Record) -> Record {
+        let mut channels = self.channels.clone();
+        let [a, b, c] = &mut channels;
+        let width = list(self.start, &self.ops)
+            .run(&mut [a, b, c])
+            .expect("a run of carried ops");
+        asked.words(&[width as u32]).floats(&channels.concat())
+    }
 }
 
 fn carried(rng: &mut Rng) -> (usize, Vec<Op>) {

@@ -15,6 +15,21 @@ cast-n c = search needs
 returns : tie.Need-returns
 returns c = search needs
 
+mul-from-word : tie.Need-mul-from-word
+mul-from-word c = search needs
+
+add-from-word : tie.Need-add-from-word
+add-from-word c = search needs
+
+from-word-requires : tie.Need-from-word-requires
+from-word-requires c κs = search needs
+
+strip-words-requires : tie.Need-strip-words-requires
+strip-words-requires c κs = search needs
+
+cast-strips : tie.Need-cast-strips
+cast-strips c = search needs
+
 words-requires : tie.Need-words-requires
 words-requires c κs = search needs
 
@@ -24,20 +39,26 @@ mul-if2 c = search needs
 add-if2 : tie.Need-add-if2
 add-if2 c = search needs
 
+add-if2-2 : tie.Need-add-if2-2
+add-if2-2 c = search needs
+
 returns-2 : tie.Need-returns-2
 returns-2 c = search needs
 
-from-word-requires : tie.Need-from-word-requires
-from-word-requires c κs = search needs
-
-mul-from-word : tie.Need-mul-from-word
-mul-from-word c = search needs
-
-add-from-word : tie.Need-add-from-word
-add-from-word c = search needs
-
 from-word-requires-2 : tie.Need-from-word-requires-2
 from-word-requires-2 c κs = search needs
+
+mul-from-word-2 : tie.Need-mul-from-word-2
+mul-from-word-2 c = search needs
+
+add-from-word-2 : tie.Need-add-from-word-2
+add-from-word-2 c = search needs
+
+add-from-word-3 : tie.Need-add-from-word-3
+add-from-word-3 c = search needs
+
+from-word-requires-3 : tie.Need-from-word-requires-3
+from-word-requires-3 c κs = search needs
 
 array-borrow-prefix-a : tie.Need-array-borrow-prefix-a
 array-borrow-prefix-a c = search needs
@@ -70,14 +91,21 @@ same-after-spec =
     word-requires
     cast-n
     returns
+    mul-from-word
+    add-from-word
+    from-word-requires
+    strip-words-requires
+    cast-strips
     words-requires
     mul-if2
     add-if2
+    add-if2-2
     returns-2
-    from-word-requires
-    mul-from-word
-    add-from-word
     from-word-requires-2
+    mul-from-word-2
+    add-from-word-2
+    add-from-word-3
+    from-word-requires-3
     array-borrow-prefix-a
     slice-aggregate-runs
     array-borrow-prefix-b
