@@ -1,6 +1,8 @@
-/* The time of one call of mul_add and of cbrt, beside the C library's fmaf and cbrtf, in one run.
-   Inputs: 4,096 random patterns of finite floats with exponents within 30 of 0, the same for both sides, in warm buffers. */
+/* The time of one call of mul_add and of cbrt, beside the C library's fmaf and cbrtf, and of one sample of screen_bytes, beside a plain
+   Rust loop of the rule before W2, in one run. Inputs: 4,096 random patterns of finite floats with exponents within 30 of 0, and 65,536
+   samples from -1/8 to 9/8; the same for both sides, in warm buffers. */
 #include <math.h>
+#include <stddef.h>
 #include <stdint.h>
 #include <stdio.h>
 #include <string.h>
@@ -8,9 +10,12 @@
 
 float rindsaddle_mul_add(float a, float b, float c);
 float rindsaddle_cbrt(float x);
+uint8_t rindsaddle_screen_bytes(const float *samples, size_t count, uint8_t *bytes, size_t room);
+void plain_screen_bytes(const float *samples, uint8_t *bytes, size_t count);
 
-enum { COUNT = 4096, TURNS = 2000 };
-static float a[COUNT], b[COUNT], c[COUNT], out[COUNT];
+enum { COUNT = 4096, TURNS = 2000, SAMPLES = 65536, FRAMES = 200 };
+static float a[COUNT], b[COUNT], c[COUNT], out[COUNT], samples[SAMPLES];
+static uint8_t bytes[SAMPLES];
 static uint64_t state = 0x9e3779b97f4a7c15u;
 
 static float sample(void) {
@@ -30,33 +35,38 @@ static double now(void) {
 }
 
 /* The barrier keeps a compiler that knows fmaf and cbrtf from working them out once for all turns. */
-#define TIMED(label, call)                                              \
+#define TIMED(label, turns, count, turn)                                \
     static double label(void) {                                         \
         double best = 1e9;                                              \
         for (int run = 0; run < 5; run++) {                             \
             double start = now();                                       \
-            for (int t = 0; t < TURNS; t++) {                           \
-                for (int i = 0; i < COUNT; i++) out[i] = call;          \
+            for (int t = 0; t < turns; t++) {                           \
+                turn;                                                   \
                 __asm__ volatile("" ::"r"(out), "r"(a), "r"(b), "r"(c) : "memory"); \
             }                                                           \
             double took = now() - start;                                \
             if (took < best) best = took;                               \
         }                                                               \
-        return best / ((double)TURNS * COUNT) * 1e9;                    \
+        return best / ((double)turns * count) * 1e9;                    \
     }
+#define EACH(call) for (int i = 0; i < COUNT; i++) out[i] = call
 
-TIMED(ours_mul_add, rindsaddle_mul_add(a[i], b[i], c[i]))
-TIMED(theirs_mul_add, fmaf(a[i], b[i], c[i]))
-TIMED(ours_cbrt, rindsaddle_cbrt(a[i]))
-TIMED(theirs_cbrt, cbrtf(a[i]))
+TIMED(ours_mul_add, TURNS, COUNT, EACH(rindsaddle_mul_add(a[i], b[i], c[i])))
+TIMED(theirs_mul_add, TURNS, COUNT, EACH(fmaf(a[i], b[i], c[i])))
+TIMED(ours_cbrt, TURNS, COUNT, EACH(rindsaddle_cbrt(a[i])))
+TIMED(theirs_cbrt, TURNS, COUNT, EACH(cbrtf(a[i])))
+TIMED(ours_screen, FRAMES, SAMPLES, rindsaddle_screen_bytes(samples, SAMPLES, bytes, SAMPLES))
+TIMED(plain_screen, FRAMES, SAMPLES, plain_screen_bytes(samples, bytes, SAMPLES))
 
 static void report(const char *name, double ours, const char *other, double theirs) {
-    printf("%-8s %6.1f ns, %-6s %6.1f ns, ratio %.1f\n", name, ours, other, theirs, ours / theirs);
+    printf("%-12s %6.2f ns, %-6s %6.2f ns, ratio %.1f\n", name, ours, other, theirs, ours / theirs);
 }
 
 int main(void) {
     for (int i = 0; i < COUNT; i++) a[i] = sample(), b[i] = sample(), c[i] = sample();
+    for (int i = 0; i < SAMPLES; i++) sample(), samples[i] = (float)(state >> 40) / (1 << 24) * 1.25f - 0.125f;
     report("mul_add", ours_mul_add(), "fmaf", theirs_mul_add());
     report("cbrt", ours_cbrt(), "cbrtf", theirs_cbrt());
+    report("screen_bytes", ours_screen(), "plain", plain_screen());
     return 0;
 }

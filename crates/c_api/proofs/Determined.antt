@@ -1,14 +1,23 @@
--- Each exported contract determines its function's answer.
--- An answer is said to equal one value, so two answers are equal.
+-- Each exported contract determines its function's answer, and what it leaves in every lent buffer.
+-- Each is said to equal one value, so two are equal.
 use mathlib.Core.Path.{sym, _∙_}
+use denote.Ref.{now}
 use Rattle.notation.proofs.Determines.{Determines}
 use Rattle.c_api.proofs.rindsaddle_mul_add.Reads as mul-add
 use Rattle.c_api.proofs.rindsaddle_mul_add.Kinds as mul-add-kinds
 use Rattle.c_api.proofs.rindsaddle_cbrt.Reads as cbrt
 use Rattle.c_api.proofs.rindsaddle_cbrt.Kinds as cbrt-kinds
+use Rattle.c_api.proofs.rindsaddle_screen_bytes.Reads as screen-bytes
+use Rattle.c_api.proofs.rindsaddle_screen_bytes.Kinds as screen-bytes-kinds
 
 pub mul-add-determines : Determines 0 mul-add-kinds.ps mul-add-kinds.r mul-add.Post (λ κs r s. r)
 mul-add-determines κs a x y s t p q = p ∙ sym q
 
 pub cbrt-determines : Determines 0 cbrt-kinds.ps cbrt-kinds.r cbrt.Post (λ κs r s. r)
 cbrt-determines κs a x y s t p q = p .1 ∙ sym (q .1)
+
+pub screen-bytes-determines : Determines 2 screen-bytes-kinds.ps screen-bytes-kinds.r screen-bytes.Post (λ κs r s. r)
+screen-bytes-determines κs a x y s t p q = p .0 ∙ sym (q .0)
+
+pub screen-bytes-bytes-determines : Determines 2 screen-bytes-kinds.ps screen-bytes-kinds.r screen-bytes.Post (λ κs r s. now (s .1 .0))
+screen-bytes-bytes-determines κs a x y s t p q = p .1 ∙ sym (q .1)

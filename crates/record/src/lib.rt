@@ -5,7 +5,7 @@ ghost use lib.ListN.{length};
 
 mod colours; // colours.rt: vectors, matrices, white points, primaries and curves
 mod ops; // ops.rt: ops and lists of ops
-mod samples; // samples.rt: three channels of samples
+mod samples; // samples.rt: samples, and three channels of them
 
 pub use colours::curve_of;
 pub use colours::is_curve;
@@ -20,6 +20,7 @@ pub use colours::xy_of;
 pub use ops::Found;
 pub use ops::list_at;
 pub use samples::read_channels;
+pub use samples::read_samples;
 pub use samples::same_channels;
 
 // What a digit counts, `0` to `9` and `a` to `f`.

@@ -1,11 +1,11 @@
-// Three channels of samples, one after the other, a word to a sample.
+// Samples, and three channels of them one after the other, a word to a sample.
 use crate::bits_of;
 use crate::float;
 use crate::from_word;
 use crate::word;
 
 // Each sample takes the word in its place.
-fn read_samples(words: &[u8], samples: &mut [f32]) {
+pub fn read_samples(words: &[u8], samples: &mut [f32]) {
     let mut i: usize = 0;
     while i < samples.len() {
         samples[i] = float(words, i);

@@ -5,6 +5,7 @@ mod cuts; // cuts.rt: runs by strips
 mod lists;
 mod matrices;
 mod plans;
+mod screens;
 mod sides; // sides.rt: encodings and settings
 
 use record::from_word;
@@ -43,6 +44,8 @@ const YCBCR: u32 = 16;
 
 const BLOCK: u32 = 17;
 
+const SCREEN: u32 = 18;
+
 const STRIPS: u32 = 19;
 
 fn same_matrix(kind: u32, words: &[u8]) -> bool {
@@ -77,6 +80,7 @@ pub fn same(line: &[u8]) -> bool {
         RUN => lists::same_run(words, false),
         STRIPS => lists::same_run(words, true),
         BLOCK => blocks::same_block(words),
+        SCREEN => screens::same_screen(words),
         _ => same_matrix(kind, words),
     }
 }

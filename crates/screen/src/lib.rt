@@ -1,6 +1,5 @@
 // Samples as bytes for a screen.
 ghost use mathlib.Core.Path.{_≡_};
-ghost use lib.Ieee.{toUnsigned};
 ghost use Rattle.screen.specs.Screen.{screenByte};
 ghost use Rattle.screen.specs.Showing.{paper, showingOf, shownOf};
 use notation::Answer;
@@ -30,26 +29,17 @@ pub fn paper(showing: Showing) -> Answer
     }
 }
 
-// x without its fraction, held within 0 to 255; NaN gives 0.
-fn whole(x: f32) -> u8
-    ensures { λ r. ⌜ r ≡ toUnsigned 8 x ⌝ }
-{
-    if x < 1.0 {
-        return 0;
-    }
-    if x < 256.0 {
-        return std::num::truncating_f32_to_u64(x) as u8;
-    }
-    if x != x {
-        return 0;
-    }
-    255
-}
-
 pub fn screen_byte(sample: f32) -> u8
     ensures { λ r. ⌜ r ≡ screenByte sample ⌝ }
 {
-    whole(steps::clipped(sample) * 255.0 + 0.5)
+    let clipped = steps::clipped(sample);
+    if clipped != clipped {
+        return 0;
+    }
+    // The product is exact in f64. From 2^52 on an f64 has no fraction, so the sum is rounded to a whole number, a tie to the even one.
+    let sum = clipped as f64 * 255.0 + 4503599627370496.0;
+    // The pattern of 2^52 + b is that of 2^52 plus b.
+    (f64::to_bits(sum) - 0x4330_0000_0000_0000) as u8
 }
 
 pub fn screen_bytes(samples: &[f32], bytes: &mut [u8]) -> Showing

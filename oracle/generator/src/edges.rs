@@ -8,9 +8,13 @@ const MORE: [f32; 2] = [1.0 - f32::EPSILON / 2.0, 255.0];
 /// Samples of an ordinary pixel, one to a channel.
 pub const ORDINARY: [f32; 3] = [0.25, 0.625, 0.40625];
 
+pub fn edges() -> impl Iterator<Item = f32> {
+    SPECIAL.into_iter().chain(MORE)
+}
+
 /// Each edge in each place of a row while the others stay, and then in every place at once.
 pub fn at_edges<const N: usize>(row: [f32; N]) -> impl Iterator<Item = [f32; N]> {
-    SPECIAL.into_iter().chain(MORE).flat_map(move |edge| {
+    edges().flat_map(move |edge| {
         let alone = move |place| {
             let mut other = row;
             other[place] = edge;

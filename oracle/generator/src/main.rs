@@ -17,13 +17,14 @@ mod points;
 mod record;
 mod rng;
 mod run;
+mod screen;
 mod strips;
 mod ycbcr;
 
 use std::io::{BufWriter, Write};
 
-const USAGE: &str = "usage: oracle fused|cbrt|ciexyz|plan|merge|run|strips|ycbcr|block SEED COUNT, \
-                     or oracle cbrt-census, or oracle differences";
+const USAGE: &str = "usage: oracle fused|cbrt|ciexyz|plan|merge|run|strips|ycbcr|block|screen SEED COUNT, \
+                     or oracle cbrt-census, or oracle screen-census, or oracle differences";
 
 fn number<T: std::str::FromStr>(word: Option<String>) -> T {
     word.and_then(|word| word.parse().ok()).expect(USAGE)
@@ -34,6 +35,7 @@ fn main() {
     let kind = words.next().expect(USAGE);
     match kind.as_str() {
         "cbrt-census" => return cbrt::census(),
+        "screen-census" => return screen::census(),
         "differences" => return differences::print(),
         _ => {}
     }
@@ -50,6 +52,7 @@ fn main() {
         "strips" => strips::write(rng, count, out),
         "ycbcr" => ycbcr::write(rng, count, out),
         "block" => block::write(rng, count, out),
+        "screen" => screen::write(rng, count, out),
         _ => panic!("{USAGE}"),
     }
     out.flush().expect("standard output");

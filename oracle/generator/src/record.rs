@@ -23,6 +23,7 @@ pub enum Kind {
     Run = 15,
     Ycbcr = 16,
     Block = 17,
+    Screen = 18,
     Strips = 19,
 }
 
