@@ -1,8 +1,9 @@
 // Plan blocks: n, the n bytes, four to a word; number, bytes of rest, start width and list.
+use list::Plan;
 use record::from_word;
 
 // More bytes than a record has room for.
-const ROOM: usize = 2048;
+pub(crate) const ROOM: usize = 2048;
 
 // Byte i of these words, the first of each word in its highest two digits.
 fn byte_at(words: &[u8], i: usize) -> u8 {
@@ -15,7 +16,7 @@ fn byte_at(words: &[u8], i: usize) -> u8 {
     }
 }
 
-fn read_bytes(words: &[u8], bytes: &mut [u8]) {
+pub(crate) fn read_bytes(words: &[u8], bytes: &mut [u8]) {
     let mut i: usize = 0;
     while i < bytes.len() {
         bytes[i] = byte_at(words, i);
@@ -23,18 +24,17 @@ fn read_bytes(words: &[u8], bytes: &mut [u8]) {
     }
 }
 
-// Whether the rest is what follows the first `used` bytes.
-fn follows(rest: &[u8], bytes: &[u8], used: usize) -> bool {
-    if bytes.len() < used {
+// Whether both begin with the same n bytes.
+fn begin_alike(a: &[u8], b: &[u8], n: usize) -> bool {
+    if a.len() < n {
         return false;
     }
-    let tail = &bytes[used..];
-    if rest.len() != tail.len() {
+    if b.len() < n {
         return false;
     }
     let mut i: usize = 0;
-    while i < rest.len() {
-        if rest[i] != tail[i] {
+    while i < n {
+        if a[i] != b[i] {
             return false;
         }
         i += 1;
@@ -42,7 +42,26 @@ fn follows(rest: &[u8], bytes: &[u8], used: usize) -> bool {
     true
 }
 
-// Reads the block and compares what is found with the answer: number, bytes of rest, start width and list.
+pub(crate) fn same_bytes(a: &[u8], b: &[u8]) -> bool {
+    a.len() == b.len() && begin_alike(a, b, a.len())
+}
+
+// Whether the rest is what follows the first `used` bytes.
+fn follows(rest: &[u8], bytes: &[u8], used: usize) -> bool {
+    if bytes.len() < used {
+        return false;
+    }
+    same_bytes(rest, &bytes[used..])
+}
+
+// Whether the list that was read, written again, gives the first `used` bytes; of a refused block none are used.
+fn rewrites(plan: Plan, bytes: &[u8], used: usize) -> bool {
+    let mut room = [0xa5u8; ROOM];
+    let written = writer::write(plan, &mut room);
+    writer::length(written) == used && begin_alike(&room, bytes, used)
+}
+
+// Reads the block and compares what is found with the answer: number, bytes of rest, start width and list. Then the list is written again.
 fn reads(bytes: &[u8], answer: &[u8]) -> bool {
     let found = record::list_at(answer, 2, 3);
     if found.next != record::words(answer) {
@@ -57,6 +76,7 @@ fn reads(bytes: &[u8], answer: &[u8]) -> bool {
         && rest.len() == record::word(answer, 1) as usize
         && same::same_list(plan, list)
         && follows(rest, bytes, read.used)
+        && rewrites(plan, bytes, read.used)
 }
 
 pub(crate) fn same_block(words: &[u8]) -> bool {

@@ -7,6 +7,7 @@ mod matrices;
 mod plans;
 mod screens;
 mod sides; // sides.rt: encodings and settings
+mod writing;
 
 use record::from_word;
 
@@ -48,6 +49,8 @@ const SCREEN: u32 = 18;
 
 const STRIPS: u32 = 19;
 
+const WRITING: u32 = 20;
+
 fn same_matrix(kind: u32, words: &[u8]) -> bool {
     match kind {
         MATMUL3 => matrices::same_matmul3(words),
@@ -81,6 +84,7 @@ pub fn same(line: &[u8]) -> bool {
         STRIPS => lists::same_run(words, true),
         BLOCK => blocks::same_block(words),
         SCREEN => screens::same_screen(words),
+        WRITING => writing::same_written(words),
         _ => same_matrix(kind, words),
     }
 }

@@ -150,9 +150,20 @@ fn strips() {
     show(b"a strip without an open run", strips::paper(stripped));
 }
 
+// 12.
+fn writings() {
+    let mut seven = [0u8; 7];
+    let clip = list::push(list::empty(1), Op::Clip);
+    show(
+        b"a list of one op, whose block has eight bytes, written into seven",
+        writer::paper(writer::write(clip, &mut seven)),
+    );
+}
+
 fn main() {
     plans();
     runs();
     blocks();
     strips();
+    writings();
 }

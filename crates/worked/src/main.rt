@@ -182,6 +182,21 @@ fn pq_to_hlg(title: &[u8], intensity: f32) {
     print_plan(title, plan);
 }
 
+// The plan of the picture as the office sends it: written as a plan block, and read from there.
+fn office() {
+    let source = side(ColourSpace::Xyb, WhitePoint::D65, Curve::Linear);
+    let target = side(ColourSpace::Rgb, WhitePoint::D65, Curve::Linear);
+    let planned = planner::plan(source, target, settings(255.0, false));
+    let plan = planned.plan;
+    let mut bytes = [0u8; 64];
+    let written = writer::write(plan, &mut bytes);
+    io::write_all(STDOUT_FILENO, b"\nXyb to Rgb, written by the office: ");
+    io::print_decimal(STDOUT_FILENO, writer::length(written) as u64);
+    let read = block::read(&bytes);
+    let sent = read.plan;
+    print_plan(b" bytes; read by the portal\n", sent);
+}
+
 fn main() {
     picture();
     custom_white();
@@ -191,4 +206,5 @@ fn main() {
     pq_to_hlg(b"\nPq to Hlg, 999\n", 999.0);
     pq_to_hlg(b"\nPq to Hlg, 1001\n", 1001.0);
     pq_to_hlg(b"\nPq to Hlg, the next above 1001\n", 1001.00006);
+    office();
 }

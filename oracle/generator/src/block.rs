@@ -1,7 +1,7 @@
 //! Plan blocks, good and damaged. The Rust has none, so a reader judges that is written here, from
 //! 01's table.
 
-mod cases;
+pub mod cases;
 
 use crate::encodings::GREATEST_G;
 use crate::ops::Op;
@@ -11,16 +11,16 @@ use std::io::Write;
 
 /// A field of an op, as the table has it; a curve and its `g` are bad or good together.
 #[derive(Clone, Copy)]
-enum Field {
+pub enum Field {
     Float,
     Flag,
     CurveAndG,
 }
 
-use Field::{CurveAndG, Flag, Float};
+pub use Field::{CurveAndG, Flag, Float};
 
 /// The fields of the kinds 0 to 9. Params are five floats.
-const FIELDS: [&[Field]; 10] = [
+pub const FIELDS: [&[Field]; 10] = [
     &[Float; 4],
     &[Float; 2],
     &[],
@@ -34,14 +34,14 @@ const FIELDS: [&[Field]; 10] = [
 ];
 
 /// What a good block says, and what follows it.
-struct Block<'a> {
-    start: u8,
-    ops: Vec<Op>,
-    rest: &'a [u8],
+pub struct Block<'a> {
+    pub start: u8,
+    pub ops: Vec<Op>,
+    pub rest: &'a [u8],
 }
 
 /// "Order: under 7 bytes (7), 8, 10, then op by op."
-fn read(bytes: &[u8]) -> Result<Block<'_>, u32> {
+pub fn read(bytes: &[u8]) -> Result<Block<'_>, u32> {
     let (head, mut rest) = bytes.split_first_chunk::<7>().ok_or(7u32)?;
     let [mark @ .., low, high, start, count] = head;
     if mark != b"CTP" || u16::from_le_bytes([*low, *high]) != 1 {
@@ -131,14 +131,9 @@ pub fn write(rng: &mut Rng, count: usize, out: &mut impl Write) {
 }
 
 fn record(bytes: &[u8]) -> Record {
-    let words = bytes.chunks(4).map(|chunk| {
-        let mut four = [0; 4];
-        four[..chunk.len()].copy_from_slice(chunk);
-        u32::from_be_bytes(four)
-    });
     let record = Record::new(Kind::Block)
         .words(&[bytes.len() as u32])
-        .words(&words.collect::<Vec<_>>());
+        .packed(bytes);
     match read(bytes) {
         Ok(Block { start, ops, rest }) => record
             .words(&[0, rest.len() as u32, start as u32, ops.len() as u32])

@@ -19,11 +19,12 @@ mod rng;
 mod run;
 mod screen;
 mod strips;
+mod writing;
 mod ycbcr;
 
 use std::io::{BufWriter, Write};
 
-const USAGE: &str = "usage: oracle fused|cbrt|ciexyz|plan|merge|run|strips|ycbcr|block|screen SEED COUNT, \
+const USAGE: &str = "usage: oracle fused|cbrt|ciexyz|plan|merge|run|strips|ycbcr|block|screen|writing SEED COUNT, \
                      or oracle cbrt-census, or oracle screen-census, or oracle differences";
 
 fn number<T: std::str::FromStr>(word: Option<String>) -> T {
@@ -53,6 +54,7 @@ fn main() {
         "ycbcr" => ycbcr::write(rng, count, out),
         "block" => block::write(rng, count, out),
         "screen" => screen::write(rng, count, out),
+        "writing" => writing::write(rng, count, out),
         _ => panic!("{USAGE}"),
     }
     out.flush().expect("standard output");

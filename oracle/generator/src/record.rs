@@ -25,6 +25,7 @@ pub enum Kind {
     Block = 17,
     Screen = 18,
     Strips = 19,
+    Writing = 20,
 }
 
 /// The longest line, with its newline.
@@ -44,6 +45,16 @@ impl Record {
 
     pub fn floats(mut self, floats: &[f32]) -> Self {
         self.0.extend(floats.iter().map(|&x| word(x)));
+        self
+    }
+
+    /// Bytes, four to a word, the first in its highest two digits.
+    pub fn packed(mut self, bytes: &[u8]) -> Self {
+        self.0.extend(bytes.chunks(4).map(|chunk| {
+            let mut four = [0; 4];
+            four[..chunk.len()].copy_from_slice(chunk);
+            u32::from_be_bytes(four)
+        }));
         self
     }
 

@@ -4,6 +4,7 @@ use super::{CurveAndG, FIELDS, Flag, Float, size};
 use crate::encodings::GREATEST_G;
 use crate::ops::Op;
 use crate::rng::Rng;
+use crate::writing::block;
 
 /// 01's block of 18 bytes.
 pub const LISTED: [u8; 18] = [
@@ -20,7 +21,7 @@ const FLOATS: [u32; 14] = [
     0, 0x80000000, 1, 0x807fffff, 0x7f7fffff, 0x00800000,
 ];
 
-const GS: [u32; 7] = [
+pub const GS: [u32; 7] = [
     0,
     1,
     0x100,
@@ -32,31 +33,8 @@ const GS: [u32; 7] = [
 
 const HEAD: usize = 7;
 
-fn block(start: u8, count: usize, ops: &[Op]) -> Vec<u8> {
-    let mut bytes = vec![b'C', b'T', b'P', 1, 0, start, count as u8];
-    bytes.extend(ops.iter().flat_map(op_bytes));
-    bytes
-}
-
-fn op_bytes(op: &Op) -> Vec<u8> {
-    let mut words = op[1..].iter();
-    let mut word = || *words.next().expect("a word of the op");
-    let mut bytes = vec![op[0] as u8];
-    for field in FIELDS[op[0] as usize] {
-        match field {
-            Float => bytes.extend(word().to_le_bytes()),
-            Flag => bytes.push(word() as u8),
-            CurveAndG => {
-                bytes.push(word() as u8);
-                bytes.extend(word().to_le_bytes());
-            }
-        }
-    }
-    bytes
-}
-
 /// A good op whose floats all differ, so that no two can change places unseen.
-fn op(kind: usize) -> Op {
+pub fn op(kind: usize) -> Op {
     let mut op = vec![kind as u32];
     for (field, i) in FIELDS[kind].iter().zip(0..) {
         match field {

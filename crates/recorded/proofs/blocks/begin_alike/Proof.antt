@@ -1,28 +1,18 @@
--- `follows` is safe and ends.
--- The rest is as long as the bytes after the first `used`, and each turn comes nearer to its end.
+-- `begin_alike` is safe and ends.
+-- Both have n bytes, and each turn comes nearer to the last of these.
 use Prim.Native.Nat.{_≤_, _-_}
-use lib.ListN.{length}
 use borrow.Author.Needs.{needs}
-use Rattle.recorded.proofs.blocks.follows.Statement.{statement}
-use Rattle.recorded.proofs.blocks.follows.Tie as tie
+use Rattle.recorded.proofs.blocks.begin_alike.Statement.{statement}
+use Rattle.recorded.proofs.blocks.begin_alike.Tie as tie
 
 abbrev Inv-loop : tie.InvT-loop
-Inv-loop rest bytes used tail i₀ i = i ≤ length rest
+Inv-loop a b n i₀ i = i ≤ n
 
 abbrev μ-loop : tie.MeasureT-loop
-μ-loop rest bytes used tail i₀ i = length rest - i
+μ-loop a b n i₀ i = n - i
 
 returns : tie.Need-returns Inv-loop μ-loop
 returns c = search needs
-
-sub-tail : tie.Need-sub-tail Inv-loop μ-loop
-sub-tail c = search needs
-
-part-tail-start : tie.Need-part-tail-start Inv-loop μ-loop
-part-tail-start c = search needs
-
-part-tail-end : tie.Need-part-tail-end Inv-loop μ-loop
-part-tail-end c = search needs
 
 returns-2 : tie.Need-returns-2 Inv-loop μ-loop
 returns-2 c = search needs
@@ -51,16 +41,13 @@ loop-again c = search needs
 returns-4 : tie.Need-returns-4 Inv-loop μ-loop
 returns-4 c = search needs
 
-pub follows-spec : {M : Type 1} → statement M
-follows-spec =
+pub begin-alike-spec : {M : Type 1} → statement M
+begin-alike-spec =
     tie.close
     (tie.spec
     Inv-loop
     μ-loop
     returns
-    sub-tail
-    part-tail-start
-    part-tail-end
     returns-2
     loop-holds
     shared-slice-read-if3

@@ -1,0 +1,61 @@
+-- "Reading what was written returns the same list and the rest behind it" (W3), whatever bytes follow, and the rest is those, in their place.
+-- What stands at the front of the buffer is the block, and the reader makes of it the list (Laid).
+use Prim.Native.Nat.{ℕ, _+_}
+use mathlib.Core.Path.{_≡_, refl, ap, sym, _∙_}
+use mathlib.Core.Bool.{true}
+use mathlib.Core.List.{List, _++_}
+use denote.Ref.{RefT, now, ptr}
+use lib.ListN.{length, take, drop}
+use lib.Seq.{drop-at}
+use Rattle.notation.specs.Answers.{answer}
+use Rattle.notation.proofs.Tests.{fails-exactly}
+use Rattle.list.specs.Lists.{opsOf, planOf}
+use Rattle.list.specs.declared.Plan.{Plan}
+use Rattle.list.proofs.Building.{ops-of, counted}
+use Rattle.same.specs.Same.{sameList}
+use Rattle.same.proofs.Exactly.{same-list-exactly}
+use Rattle.block.specs.Block.{readOf, RestOf}
+use Rattle.block.specs.declared.Reading.the-variants.{Done}
+use Rattle.block.specs.declared.Block.{Block}
+use Rattle.writer.specs.Bytes.{blockOf}
+use Rattle.writer.specs.Writing.{paper, lengthOf, writingOf, leftOf}
+use Rattle.writer.proofs.Badness.{bad-exactly}
+use Rattle.writer.proofs.Exactly.{zero-exactly, writes-the-block}
+use Rattle.roundtrip.specs.Typed.{Typed}
+use Rattle.roundtrip.proofs.Laid.{blockRead, is-read}
+
+-- a list that is written into a buffer, and bytes t behind what was written
+module _ (p : Plan) (y : Typed p) (old : List ℕ) (e : paper (writingOf p (length old)) ≡ answer 0 0 0) (t : List ℕ) where
+  abbrev pub used : ℕ
+  used = lengthOf (writingOf p (length old))
+
+  abbrev pub sent : List ℕ
+  sent = take used (leftOf p old) ++ t
+
+  is-long : used ≡ length (blockOf p)
+  is-long = writes-the-block p old e .0
+
+  is-sent : sent ≡ blockOf p ++ t
+  is-sent = ap (λ (n : ℕ). take n (leftOf p old) ++ t) is-long ∙ ap (λ (s : List ℕ). s ++ t) (writes-the-block p old e .1)
+
+  is-read-back : readOf sent ≡ blockRead p
+  is-read-back =
+      let z = zero-exactly p (length old) .0 e in
+      ap readOf is-sent ∙ is-read p t y (z .0) (fails-exactly (bad-exactly p) .1 (z .1))
+
+  -- the list, with Clip past its count; and as many bytes as were written
+  pub read-back : readOf sent ≡ record { answer = Done; plan = planOf (p .start) (opsOf p); used = used }
+  read-back = is-read-back ∙ rw is-long
+
+  -- "returns the same list"
+  pub same-list : sameList (readOf sent .plan) p ≡ true
+  same-list =
+      let z = zero-exactly p (length old) .0 e in
+      ap (λ (b : Block). sameList (b .plan) p) is-read-back
+      ∙ same-list-exactly (planOf (p .start) (opsOf p)) p .1 (refl, counted p (y .slots) (z .0 .1), ops-of (p .start) (opsOf p))
+
+  -- "and the rest behind it": those bytes, in their place in the reader's slice
+  pub rest-in-place : (bytes rest : RefT (List ℕ)) → now bytes ≡ sent → RestOf bytes rest → (now rest ≡ t) × (ptr rest ≡ (ptr bytes .0, used + ptr bytes .1))
+  rest-in-place bytes rest f r =
+      let u : readOf (now bytes) .used ≡ used = ap (λ (s : List ℕ). readOf s .used) f ∙ ap (λ (b : Block). b .used) read-back in
+      (r .contents ∙ rw (u, f, is-sent, is-long) (drop-at (blockOf p) t (length (blockOf p)) refl), r .place ∙ rw u)

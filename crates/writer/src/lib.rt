@@ -1,0 +1,87 @@
+// Writes a list as a plan block into a lent buffer.
+ghost use mathlib.Core.Path.{_≡_};
+ghost use lib.ListN.{length};
+ghost use Rattle.writer.specs.Writing.{paper, lengthOf, writingOf, leftOf};
+
+mod bad; // bad.rt: which fields the reader would refuse
+mod laying; // laying.rt: the bytes of a list
+
+use list::Plan;
+use notation::Answer;
+
+// No block is longer: a buffer of so many bytes is never too short.
+pub const LONGEST: usize = 1191;
+
+// What writing answers.
+pub enum Writing {
+    // So many bytes are written.
+    Done { length: usize },
+    // 10: the start width is not 1 or 3, or the count is above 32.
+    Malformed,
+    // 9: a field that the reader would refuse.
+    BadField,
+    // 12: the buffer is too short.
+    NoRoom,
+}
+
+// The paper's answer.
+pub fn paper(writing: Writing) -> Answer
+    ensures { λ r. ⌜ r ≡ paper writing ⌝ }
+{
+    match writing {
+        Writing::Done { .. } => Answer {
+            number: 0,
+            position: 0,
+            width: 0,
+        },
+        Writing::Malformed => Answer {
+            number: 10,
+            position: 0,
+            width: 0,
+        },
+        Writing::BadField => Answer {
+            number: 9,
+            position: 0,
+            width: 0,
+        },
+        Writing::NoRoom => Answer {
+            number: 12,
+            position: 0,
+            width: 0,
+        },
+    }
+}
+
+// The length used; 0 where writing is refused.
+pub fn length(writing: Writing) -> usize
+    ensures { λ r. ⌜ r ≡ lengthOf writing ⌝ }
+{
+    match writing {
+        Writing::Done { length } => length,
+        Writing::Malformed => 0,
+        Writing::BadField => 0,
+        Writing::NoRoom => 0,
+    }
+}
+
+// Puts the block of a list at the front of a buffer; the bytes behind it stay, and a refusal leaves all as it was.
+pub fn write(plan: Plan, bytes: &mut [u8]) -> Writing
+    ensures { λ r. ⌜ r ≡ writingOf plan (length (now (bytes .entry))) ⌝ }
+    ensures { λ _. ⌜ now (bytes .exit) ≡ leftOf plan (now (bytes .entry)) ⌝ }
+{
+    if !list::lawful(plan) {
+        return Writing::Malformed;
+    }
+    let slots = plan.ops;
+    if bad::bad_ops(slots, plan.count) {
+        return Writing::BadField;
+    }
+    // Laid out apart, since a buffer that is too short stays untouched.
+    let mut block = [0u8; LONGEST];
+    let used = laying::put_block(&mut block, plan);
+    if bytes.len() < used {
+        return Writing::NoRoom;
+    }
+    buffer::put(bytes, 0, &block[..used]);
+    Writing::Done { length: used }
+}
