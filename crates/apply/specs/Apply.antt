@@ -2,8 +2,11 @@
 use Prim.Native.Nat.{ℕ}
 use Rattle.ciexyz.specs.Matrix.{applied}
 use Rattle.channels.specs.Channels.{Channels, each}
+use Rattle.counts.specs.Bad.{steppedOf}
+use Rattle.counts.specs.declared.Stepped.{Stepped}
 use Rattle.xyb.specs.Xyb.{mixedLms}
 use Rattle.steps.specs.Samples.{xyzOfLuma, lumaOfXyz, clippedWithin}
+use Rattle.op.specs.Widths.{givesOf}
 use Rattle.op.specs.declared.Op.{Op}
 use Rattle.op.specs.declared.Op.the-variants as O
 
@@ -20,3 +23,7 @@ afterOp (O.HlgInverseOotf params) w s = s
 afterOp (O.ToneMapRec2408 params display detect) w s = s
 afterOp (O.ToneMapLumaRec2408 params display detect) w s = s
 afterOp (O.GamutMap luminances factor) w s = s
+
+-- the op's own step on channels that it finds at width w: what it answers, and reports of the channels that it leaves (02, W4)
+abbrev pub ownStep : Op → ℕ → Channels → Stepped
+ownStep o w s = steppedOf (givesOf o w) (afterOp o w) s

@@ -1,6 +1,6 @@
 // Runs by strips: each call must answer as it should, and the strips are cut from one run's channels.
+use crate::lists::Reached;
 use list::Plan;
-use notation::Answer;
 use strips::State;
 
 // More samples than a channel of a record has.
@@ -29,11 +29,12 @@ fn after_refused(state: State, refused: bool, a: &mut [f32], b: &mut [f32]) -> S
     given.state
 }
 
-// What stays open after the strip from one sample to another; nothing, where it is refused.
+// What stays open after the strip from one sample to another; nothing, where it is refused or reports another count.
 fn after_strip(
     state: State,
     from: usize,
     to: usize,
+    bad: u32,
     a: &mut [f32],
     b: &mut [f32],
     c: &mut [f32],
@@ -46,13 +47,13 @@ fn after_strip(
     }
     let given = strips::strip(state, &mut a[from..to], &mut b[from..to], &mut c[from..to]);
     let stripped = given.answer;
-    if strips::paper(stripped).number != 0 {
+    if strips::paper(stripped).number != 0 || given.bad != bad as u64 {
         return strips::closed();
     }
     given.state
 }
 
-// The strips: their number, and of each twice its length, and one more where a refused one comes before it.
+// The strips: their number, of each twice its length, and one more where a refused one comes before it, and the count of each.
 fn after_strips(state: State, cuts: &[u8], a: &mut [f32], b: &mut [f32], c: &mut [f32]) -> State {
     let number = record::word(cuts, 0) as usize;
     let mut run = state;
@@ -63,7 +64,7 @@ fn after_strips(state: State, cuts: &[u8], a: &mut [f32], b: &mut [f32], c: &mut
         let cut = record::word(cuts, k);
         let end = at + (cut / 2) as usize;
         run = after_refused(run, cut % 2 == 1, a, b);
-        run = after_strip(run, at, end, a, b, c);
+        run = after_strip(run, at, end, record::word(cuts, number + k), a, b, c);
         at = end;
     }
     run
@@ -82,19 +83,25 @@ fn opened(list: Plan) -> State {
     again.state
 }
 
-// What the close answers, where every call before it answered as it should.
+// What the close answers and reports, where every call before it answered as it should.
 pub(crate) fn by_strips(
     list: Plan,
     cuts: &[u8],
     a: &mut [f32],
     b: &mut [f32],
     c: &mut [f32],
-) -> Answer {
+) -> Reached {
     let left = after_strips(opened(list), cuts, a, b, c);
     let closed = strips::close(left);
     let answer = closed.answer;
     if !is_closed(closed.state, a, b, c) {
-        return strips::paper(strips::Stripping::NotOpen);
+        return Reached {
+            answer: strips::paper(strips::Stripping::NotOpen),
+            bad: 0,
+        };
     }
-    strips::paper(answer)
+    Reached {
+        answer: strips::paper(answer),
+        bad: closed.bad,
+    }
 }

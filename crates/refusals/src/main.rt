@@ -89,7 +89,9 @@ fn plans() {
 fn show_run(given: &[u8], plan: Plan, c: &mut [f32]) {
     let mut a: [f32; 3] = [0.5, 0.5, 0.5];
     let mut b: [f32; 3] = [0.5, 0.5, 0.5];
-    show(given, run::paper(run::run(plan, &mut a, &mut b, c)));
+    let ran = run::run(plan, &mut a, &mut b, c);
+    let outcome = ran.outcome;
+    show(given, run::paper(outcome));
 }
 
 // 4, 5 and 6.

@@ -1,10 +1,11 @@
 // Runs a list of ops on three lent channels.
 mod applying;
 mod outcomes;
+mod running;
 
 ghost use mathlib.Core.Path.{_≡_};
 ghost use Rattle.channels.specs.Channels.{channels};
-ghost use Rattle.run.specs.Refusals.{outcomeOf};
+ghost use Rattle.run.specs.Report.{reportedOf};
 ghost use Rattle.run.specs.Run.{ranOf};
 use list::Plan;
 pub use outcomes::paper;
@@ -23,20 +24,19 @@ pub enum Outcome {
     NotCarried { position: usize },
 }
 
-// Every refusal comes before the first write.
-pub fn run(plan: Plan, a: &mut [f32], b: &mut [f32], c: &mut [f32]) -> Outcome
-    ensures { λ r. ⌜ r ≡ outcomeOf plan (channels (now (a .entry)) (now (b .entry)) (now (c .entry))) ⌝ }
+// What a run answers, and how many samples it left bad.
+pub struct Ran {
+    pub outcome: Outcome,
+    pub bad: u64,
+}
+
+// The count comes once, after the last op. Within width 0, that of a refused run, there is nothing to count.
+pub fn run(plan: Plan, a: &mut [f32], b: &mut [f32], c: &mut [f32]) -> Ran
+    ensures { λ r. ⌜ r ≡ reportedOf plan (channels (now (a .entry)) (now (b .entry)) (now (c .entry))) ⌝ }
     ensures { λ _. ⌜ channels (now (a .exit)) (now (b .exit)) (now (c .exit)) ≡ ranOf plan (channels (now (a .entry)) (now (b .entry)) (now (c .entry))) ⌝ }
 {
-    let judgement = judge::judge(plan);
-    let same = channels::same_lengths(a.len(), b.len(), c.len());
-    let outcome = outcomes::outcome_by(judgement, same);
-    let Outcome::Done { width } = outcome else {
-        return outcome;
-    };
-    let start = plan.start;
-    let count = plan.count;
-    let slots = plan.ops;
-    applying::run_ops(slots, start, count, a, b, c);
-    Outcome::Done { width }
+    let outcome = running::run_samples(plan, a, b, c);
+    let answer = paper(outcome);
+    let bad = counts::count(answer.width, a, b, c);
+    Ran { outcome, bad }
 }

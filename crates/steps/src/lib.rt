@@ -6,8 +6,13 @@ mod to_luma;
 mod to_xyz;
 
 pub use clipping::clip;
+pub use clipping::clip_samples;
 pub use clipping::clipped;
 pub use curves::unchanged;
+pub use curves::unchanged_samples;
 pub use matrices::matrix;
+pub use matrices::matrix_samples;
 pub use to_luma::xyz_to_luma;
+pub use to_luma::xyz_to_luma_samples;
 pub use to_xyz::luma_to_xyz;
+pub use to_xyz::luma_to_xyz_samples;

@@ -3,11 +3,13 @@ ghost use mathlib.Core.Path.{_≡_};
 ghost use Rattle.ciexyz.specs.Matrix.{applied};
 ghost use Rattle.channels.specs.Channels.{channels, each, whereEqual};
 ghost use Rattle.channels.specs.Stepping.{stepOf};
+ghost use Rattle.counts.specs.Bad.{steppedOf};
 use channels::Stepping;
 use ciexyz::Mat3;
 use ciexyz::Vec3;
+use counts::Stepped;
 
-pub fn matrix(m: Mat3, a: &mut [f32], b: &mut [f32], c: &mut [f32]) -> Stepping
+pub fn matrix_samples(m: Mat3, a: &mut [f32], b: &mut [f32], c: &mut [f32]) -> Stepping
     ensures { λ r. ⌜ r ≡ stepOf 3 (channels (now (a .entry)) (now (b .entry)) (now (c .entry))) ⌝ }
     ensures { λ _. ⌜ channels (now (a .exit)) (now (b .exit)) (now (c .exit)) ≡ whereEqual (each (applied m)) (channels (now (a .entry)) (now (b .entry)) (now (c .entry))) ⌝ }
 {
@@ -28,4 +30,13 @@ pub fn matrix(m: Mat3, a: &mut [f32], b: &mut [f32], c: &mut [f32]) -> Stepping
         i += 1;
     }
     Stepping::Done { width: 3 }
+}
+
+// Matrix's own step.
+pub fn matrix(m: Mat3, a: &mut [f32], b: &mut [f32], c: &mut [f32]) -> Stepped
+    ensures { λ r. ⌜ r ≡ steppedOf 3 (each (applied m)) (channels (now (a .entry)) (now (b .entry)) (now (c .entry))) ⌝ }
+    ensures { λ _. ⌜ channels (now (a .exit)) (now (b .exit)) (now (c .exit)) ≡ whereEqual (each (applied m)) (channels (now (a .entry)) (now (b .entry)) (now (c .entry))) ⌝ }
+{
+    let answer = matrix_samples(m, a, b, c);
+    counts::report(answer, a, b, c)
 }

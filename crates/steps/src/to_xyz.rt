@@ -3,10 +3,12 @@ ghost use mathlib.Core.Path.{_≡_};
 ghost use Rattle.channels.specs.Channels.{channels, each, whereEqual};
 ghost use Rattle.channels.specs.Stepping.{stepOf};
 ghost use Rattle.steps.specs.Samples.{xyzOfLuma};
+ghost use Rattle.counts.specs.Bad.{steppedOf};
 use channels::Stepping;
 use ciexyz::Xy;
+use counts::Stepped;
 
-pub fn luma_to_xyz(illuminant: Xy, a: &mut [f32], b: &mut [f32], c: &mut [f32]) -> Stepping
+pub fn luma_to_xyz_samples(illuminant: Xy, a: &mut [f32], b: &mut [f32], c: &mut [f32]) -> Stepping
     ensures { λ r. ⌜ r ≡ stepOf 3 (channels (now (a .entry)) (now (b .entry)) (now (c .entry))) ⌝ }
     ensures { λ _. ⌜ channels (now (a .exit)) (now (b .exit)) (now (c .exit)) ≡ whereEqual (each (xyzOfLuma illuminant)) (channels (now (a .entry)) (now (b .entry)) (now (c .entry))) ⌝ }
 {
@@ -25,4 +27,13 @@ pub fn luma_to_xyz(illuminant: Xy, a: &mut [f32], b: &mut [f32], c: &mut [f32]) 
         i += 1;
     }
     Stepping::Done { width: 3 }
+}
+
+// LumaToXyz's own step.
+pub fn luma_to_xyz(illuminant: Xy, a: &mut [f32], b: &mut [f32], c: &mut [f32]) -> Stepped
+    ensures { λ r. ⌜ r ≡ steppedOf 3 (each (xyzOfLuma illuminant)) (channels (now (a .entry)) (now (b .entry)) (now (c .entry))) ⌝ }
+    ensures { λ _. ⌜ channels (now (a .exit)) (now (b .exit)) (now (c .exit)) ≡ whereEqual (each (xyzOfLuma illuminant)) (channels (now (a .entry)) (now (b .entry)) (now (c .entry))) ⌝ }
+{
+    let answer = luma_to_xyz_samples(illuminant, a, b, c);
+    counts::report(answer, a, b, c)
 }

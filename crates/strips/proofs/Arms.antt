@@ -1,6 +1,6 @@
 -- What the arms of the code know: of a list that is not ready, and of one that is by what its run answers.
 -- By the cases of what is judged.
-use Prim.Native.Nat.{ℕ}
+use Prim.Native.Nat.{ℕ, _+_}
 use mathlib.Core.Path.{_≡_, ap, refl, sym, subst, _∙_}
 use mathlib.Core.Bool.{Bool, true, false}
 use mathlib.Core.List.{[], _∷_}
@@ -13,11 +13,15 @@ use Rattle.judge.specs.Judging.{judgeOf}
 use Rattle.judge.specs.declared.Judgement.{Judgement}
 use Rattle.judge.specs.declared.Judgement.the-variants.{Ready, Malformed, Misfit, NotCarried}
 use Rattle.judge.proofs.Judgement as Judge
+use Rattle.counts.specs.Bad.{countOf, held}
 use Rattle.run.specs.Refusals as Run
+use Rattle.run.specs.Report.{badAfter}
+use Rattle.run.specs.declared.Outcome.{Outcome}
+use Rattle.run.specs.declared.Outcome.the-variants as Ran
 use Rattle.run.specs.Refusals.{outcomeBy, outcomeOf}
 use Rattle.run.specs.Run.{ranOf}
 use Rattle.run.proofs.Leaving.{refused}
-use Rattle.strips.specs.Machine.{paper, stripBy, stripOf}
+use Rattle.strips.specs.Machine.{afterBy, answerOf, badBy, leftOf, paper, stripBy, stripOf}
 use Rattle.strips.specs.declared.State.{State}
 use Rattle.strips.specs.declared.Stripped.{Stripped}
 use Rattle.strips.specs.declared.Stripping.{Stripping}
@@ -62,6 +66,14 @@ module _ (p : Plan) (s : Channels) where
         by true n = absurd (n refl)
         by false n = refl
 
+    -- the run's outcome is at the same width, and so is its count
+    pub counts : (n : ℕ) → Run.paper (outcomeOf p s) .number ≡ 0 → n ≡ badAfter (outcomeOf p s) (ranOf p s) → n ≡ countOf w (ranOf p s)
+    counts n h c = c ∙ ap (λ (o : Outcome). badAfter o (ranOf p s)) (by (equallyLong s) refl)
+      where
+        by : (same : Bool) → equallyLong s ≡ same → outcomeOf p s ≡ Ran.Done w
+        by true e' = rw (ending-ready (judgeOf p) w e, e')
+        by false e' = absurd (let h' : Run.paper (outcomeBy (Ready w) false) .number ≡ 0 = rw (ending-ready (judgeOf p) w e, e') at h in omega (arith, h'))
+
     pub equal : Run.paper (outcomeOf p s) .number ≡ 0 → Done w ≡ stripBy (judgeOf p) (equallyLong s)
     equal n = rw (ending-ready (judgeOf p) w e) (by (equallyLong s) (rw (ending-ready (judgeOf p) w e) at n))
       where
@@ -69,9 +81,17 @@ module _ (p : Plan) (s : Channels) where
         by true n = refl
         by false n = absurd (omega arith)
 
--- a strip leaves the run open as it was
-pub stays-open : (z : State) (s : Channels) {r : Stripping} → r ≡ stripBy (judgeOf (z .plan)) (equallyLong s) → _≡_ {A = Stripped} record { answer = r; state = z } (stripOf z s)
-stays-open z s e = rw e
+-- what a strip answers decides what it reports, and what stays open
+abbrev by-answer : State → Stripping → Channels → Stripped
+by-answer z e left = record { answer = e; bad = badBy e left; state = afterBy z e left }
+
+pub answered : (z : State) (s : Channels) {e : Stripping} → e ≡ answerOf z s → by-answer z e (leftOf z s) ≡ stripOf z s
+answered z s h = ap (λ (e : Stripping). by-answer z e (leftOf z s)) h
+
+-- an accepted strip, by what its run reports
+pub accepted-strip : (z : State) (s : Channels) (w : ℕ) (n sum : ℕ) → Done w ≡ answerOf z s → n ≡ countOf w (leftOf z s) → sum ≡ held (z .bad + n)
+    → _≡_ {A = Stripped} record { answer = Done w; bad = n; state = record { plan = z .plan; bad = sum } } (stripOf z s)
+accepted-strip z s w n sum h e f = rw (f, e) (answered z s h)
 
 -- what the code's `else` knows of an ending
 pub not-done : (r : Stripping) → OneOf (1 ∷ 2 ∷ []) (tagOf Enum.the-type r) → ¬ (paper r .number ≡ 0)

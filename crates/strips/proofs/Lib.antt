@@ -6,5 +6,6 @@ pub mod Determined
 -- the list of an open run is the one that it was opened with; joined strips
 pub mod Keeping
 pub mod Strips
+pub mod Sums
 -- what the code's arms know
 pub mod Arms

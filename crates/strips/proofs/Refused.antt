@@ -13,9 +13,11 @@ use Rattle.judge.specs.declared.Judgement.the-variants.{Ready, Malformed, Misfi
 use Rattle.run.specs.Refusals as Run
 use Rattle.run.specs.Refusals.{outcomeBy}
 use Rattle.run.proofs.Reaches.{refused-changes-nothing}
-use Rattle.strips.specs.Machine.{closed, leftOf, openedBy, paper, stripBy, stripOf}
+use Rattle.strips.specs.Machine.{afterBy, answerOf, badBy, closeOf, closed, leftOf, openedBy, paper, stripBy, stripOf, sumBy}
 use Rattle.strips.specs.Calls.{AllAre, Call, NoOpening, after, close, closes, more, none, opens, strip, toldAll}
 use Rattle.strips.specs.declared.State.{State}
+use Rattle.strips.specs.declared.Stripping.{Stripping}
+use Rattle.strips.specs.declared.Stripping.the-variants.{Done, NotOpen, Unequal}
 
 pub refused-opening : (z : State) (p : Plan) → ¬ (Judging.paper (Judging.judgeOf p) .number ≡ 0) → after z (opens p) ≡ closed
 refused-opening z p = by (Judging.judgeOf p)
@@ -46,3 +48,20 @@ refused-strip z s n = refused-changes-nothing (z .plan) s (λ h. n (by (Judging.
     by (Misfit i) false h = absurd (omega arith)
     by (NotCarried i) true h = absurd (omega arith)
     by (NotCarried i) false h = absurd (omega arith)
+
+-- "A refused .. strip or close reports 0" (02, W4), and the run stays open as it was
+pub refused-reports : (z : State) (s : Channels) → ¬ (paper (stripOf z s .answer) .number ≡ 0) → (stripOf z s .bad ≡ 0) × (stripOf z s .state ≡ z)
+refused-reports z s = by (answerOf z s)
+  where
+    by : (e : Stripping) → ¬ (paper e .number ≡ 0) → (badBy e (leftOf z s) ≡ 0) × (afterBy z e (leftOf z s) ≡ z)
+    by (Done w) n = absurd (n refl)
+    by NotOpen n = (refl, refl)
+    by Unequal n = (refl, refl)
+
+pub refused-close-reports : (z : State) → ¬ (paper (closeOf z .answer) .number ≡ 0) → closeOf z .bad ≡ 0
+refused-close-reports z = by (stripBy (Judging.judgeOf (z .plan)) true)
+  where
+    by : (e : Stripping) → ¬ (paper e .number ≡ 0) → sumBy e (z .bad) ≡ 0
+    by (Done w) n = absurd (n refl)
+    by NotOpen n = refl
+    by Unequal n = refl

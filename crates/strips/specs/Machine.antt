@@ -1,12 +1,13 @@
--- "We open a run with a plan, give strips of three channels, and close it." (02, W1): what each call answers and makes of the state, and what a
--- strip leaves in the channels. Definitions only.
-use Prim.Native.Nat.{ℕ}
+-- "We open a run with a plan, give strips of three channels, and close it." (02, W1): what each call answers, reports and makes of the state, and
+-- what a strip leaves in the channels. Definitions only.
+use Prim.Native.Nat.{ℕ, _+_}
 use mathlib.Core.Bool.{Bool, true}
 use mathlib.Core.List.{[]}
 use Rattle.notation.specs.Choice.{if_then_else_}
 use Rattle.notation.specs.Answers.{answer}
 use Rattle.notation.specs.declared.Answer.{Answer}
 use Rattle.channels.specs.Channels.{Channels, equallyLong}
+use Rattle.counts.specs.Bad.{countOf, held}
 use Rattle.list.specs.Lists.{noList, appended}
 use Rattle.list.specs.declared.Plan.{Plan}
 use Rattle.judge.specs.Judging.{judgeOf}
@@ -27,11 +28,11 @@ paper Unequal = answer 4 0 0
 
 -- no run is open
 abbrev pub closed : State
-closed = record { plan = noList }
+closed = record { plan = noList; bad = 0 }
 
 -- "The list is checked at opening by 10, 5, 6; a refused opening leaves no open run, and opening while a run is open starts afresh."
 abbrev pub openedBy : Plan → Judgement → State
-openedBy p (Ready w) = record { plan = appended p [] }
+openedBy p (Ready w) = record { plan = appended p []; bad = 0 }
 openedBy p Malformed = closed
 openedBy p (Misfit i) = closed
 openedBy p (NotCarried i) = closed
@@ -46,14 +47,37 @@ stripBy Malformed same = NotOpen
 stripBy (Misfit i) same = NotOpen
 stripBy (NotCarried i) same = NotOpen
 
--- "A strip of unequal lengths is refused, changes nothing, and the run stays open as it was"
-abbrev pub stripOf : State → Channels → Stripped
-stripOf z s = record { answer = stripBy (judgeOf (z .plan)) (equallyLong s); state = z }
+abbrev pub answerOf : State → Channels → Stripping
+answerOf z s = stripBy (judgeOf (z .plan)) (equallyLong s)
 
 -- the channels of a strip after it: the samples that a run of it alone gives, and of a refused one those that were
 abbrev pub leftOf : State → Channels → Channels
 leftOf z s = ranOf (z .plan) s
 
--- "the close answers the width"
+-- "A strip reports its own count" (02, W4), in the channels that it leaves; a refused one 0
+abbrev pub badBy : Stripping → Channels → ℕ
+badBy (Done w) left = countOf w left
+badBy NotOpen left = 0
+badBy Unequal left = 0
+
+-- "A strip of unequal lengths is refused, changes nothing, and the run stays open as it was"; an accepted one adds its count, held
+abbrev pub afterBy : State → Stripping → Channels → State
+afterBy z (Done w) left = record { plan = z .plan; bad = held (z .bad + countOf w left) }
+afterBy z NotOpen left = z
+afterBy z Unequal left = z
+
+abbrev pub stripOf : State → Channels → Stripped
+stripOf z s =
+    let e = answerOf z s in
+    record { answer = e; bad = badBy e (leftOf z s); state = afterBy z e (leftOf z s) }
+
+-- "the close answers the width", and reports "the sum over the accepted strips" (02, W4); 0 without an open run
+abbrev pub sumBy : Stripping → ℕ → ℕ
+sumBy (Done w) sum = sum
+sumBy NotOpen sum = 0
+sumBy Unequal sum = 0
+
 abbrev pub closeOf : State → Stripped
-closeOf z = record { answer = stripBy (judgeOf (z .plan)) true; state = closed }
+closeOf z =
+    let e = stripBy (judgeOf (z .plan)) true in
+    record { answer = e; bad = sumBy e (z .bad); state = closed }

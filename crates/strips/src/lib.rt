@@ -3,15 +3,16 @@ ghost use mathlib.Core.Path.{_≡_};
 ghost use mathlib.Core.Bool.{true};
 ghost use Rattle.channels.specs.Channels.{channels};
 ghost use Rattle.judge.specs.Judging.{judgeOf};
-ghost use Rattle.strips.specs.Machine.{paper, closed, openOf, stripBy, stripOf, leftOf, closeOf};
+ghost use Rattle.strips.specs.Machine.{paper, closed, openOf, stripBy, sumBy, stripOf, leftOf, closeOf};
 use judge::Judgement;
 use list::Plan;
 use notation::Answer;
 use run::Outcome;
 
-// A run is open with this list where it can be run; a list that cannot is no open run.
+// A run is open with this list where it can be run; a list that cannot is no open run. So many samples of its strips went bad.
 pub struct State {
     pub plan: Plan,
+    pub bad: u64,
 }
 
 // What a strip and a close answer.
@@ -29,8 +30,10 @@ pub struct Opened {
     pub state: State,
 }
 
+// Of a strip its own count of bad samples, of a close the sum.
 pub struct Stripped {
     pub answer: Stripping,
+    pub bad: u64,
     pub state: State,
 }
 
@@ -63,6 +66,7 @@ pub fn closed() -> State
 {
     State {
         plan: list::empty(0),
+        bad: 0,
     }
 }
 
@@ -77,10 +81,10 @@ fn ending(plan: Plan) -> Stripping
     Stripping::Done { width: end }
 }
 
-fn a_strip(answer: Stripping, state: State) -> Stripped
-    ensures { λ r. ⌜ r ≡ record { answer = answer; state = state } ⌝ }
+fn a_strip(answer: Stripping, bad: u64, state: State) -> Stripped
+    ensures { λ r. ⌜ r ≡ record { answer = answer; bad = «bad»; state = state } ⌝ }
 {
-    Stripped { answer, state }
+    Stripped { answer, bad, state }
 }
 
 fn an_opening(answer: Judgement, state: State) -> Opened
@@ -89,13 +93,25 @@ fn an_opening(answer: Judgement, state: State) -> Opened
     Opened { answer, state }
 }
 
+// The sum of the strips' counts, where a run is open.
+fn sum_of(answer: Stripping, bad: u64) -> u64
+    ensures { λ r. ⌜ r ≡ sumBy answer «bad» ⌝ }
+{
+    match answer {
+        Stripping::Done { width: _ } => bad,
+        Stripping::NotOpen => 0,
+        Stripping::Unequal => 0,
+    }
+}
+
 pub fn close(state: State) -> Stripped
     ensures { λ r. ⌜ r ≡ closeOf state ⌝ }
 {
     let plan = state.plan;
     let answer = ending(plan);
+    let bad = sum_of(answer, state.bad);
     let none = closed();
-    a_strip(answer, none)
+    a_strip(answer, bad, none)
 }
 
 // What was open is closed first, whether the opening is refused or not.
@@ -107,7 +123,7 @@ pub fn open(state: State, plan: Plan) -> Opened
     let kept = list::kept(plan);
     let answer = judge::judge(plan);
     match answer {
-        Judgement::Ready { width: _ } => an_opening(answer, State { plan: kept }),
+        Judgement::Ready { width: _ } => an_opening(answer, State { plan: kept, bad: 0 }),
         Judgement::Malformed => an_opening(answer, none),
         Judgement::Misfit { position: _ } => an_opening(answer, none),
         Judgement::NotCarried { position: _ } => an_opening(answer, none),
@@ -122,11 +138,13 @@ pub fn strip(state: State, a: &mut [f32], b: &mut [f32], c: &mut [f32]) -> Strip
     let plan = state.plan;
     let ready = ending(plan);
     let Stripping::Done { width } = ready else {
-        return a_strip(Stripping::NotOpen, state);
+        return a_strip(Stripping::NotOpen, 0, state);
     };
-    let outcome = run::run(plan, a, b, c);
+    let ran = run::run(plan, a, b, c);
+    let outcome = ran.outcome;
     let Outcome::Done { width: _ } = outcome else {
-        return a_strip(Stripping::Unequal, state);
+        return a_strip(Stripping::Unequal, 0, state);
     };
-    a_strip(Stripping::Done { width }, state)
+    let sum = counts::sum(state.bad, ran.bad);
+    a_strip(Stripping::Done { width }, ran.bad, State { plan, bad: sum })
 }

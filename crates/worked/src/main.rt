@@ -82,7 +82,9 @@ fn at_once(plan: Plan) {
     let mut a: [f32; 3] = [0.0, 0.01979, 0.0];
     let mut b: [f32; 3] = [0.8453, 0.37586, 0.0];
     let mut c: [f32; 3] = [0.8453, 0.36405, 0.0];
-    let ended = run::paper(run::run(plan, &mut a, &mut b, &mut c));
+    let ran = run::run(plan, &mut a, &mut b, &mut c);
+    let outcome = ran.outcome;
+    let ended = run::paper(outcome);
     if ended.number != 0 || ended.width != 3 {
         io::write_all(STDOUT_FILENO, b"the run is refused\n");
         return;

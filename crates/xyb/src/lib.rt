@@ -3,8 +3,10 @@ ghost use mathlib.Core.Path.{_≡_};
 ghost use Rattle.channels.specs.Channels.{channels, each, whereEqual};
 ghost use Rattle.channels.specs.Stepping.{stepOf};
 ghost use Rattle.xyb.specs.Xyb.{mixed, mixedBy, rootsOf, mixedLms};
+ghost use Rattle.counts.specs.Bad.{steppedOf};
 use channels::Stepping;
 use ciexyz::Vec3;
+use counts::Stepped;
 
 fn gamma3(root: f32, bias: f32, scale: f32, g: f32) -> f32
     ensures { λ r. ⌜ r ≡ mixed root bias scale g ⌝ }
@@ -34,7 +36,7 @@ fn roots_of(bias: Vec3) -> Vec3
 }
 
 // The cube roots of the biases are worked out once.
-pub fn xyb_to_mixed_lms(
+pub fn xyb_to_mixed_lms_samples(
     opsin_bias: Vec3,
     intensity_target: f32,
     x: &mut [f32],
@@ -63,4 +65,19 @@ pub fn xyb_to_mixed_lms(
         i += 1;
     }
     Stepping::Done { width: 3 }
+}
+
+// XybToMixedLms's own step.
+pub fn xyb_to_mixed_lms(
+    opsin_bias: Vec3,
+    intensity_target: f32,
+    x: &mut [f32],
+    y: &mut [f32],
+    b: &mut [f32],
+) -> Stepped
+    ensures { λ r. ⌜ r ≡ steppedOf 3 (each (mixedLms «opsin_bias» «intensity_target»)) (channels (now (x .entry)) (now (y .entry)) (now (b .entry))) ⌝ }
+    ensures { λ _. ⌜ channels (now (x .exit)) (now (y .exit)) (now (b .exit)) ≡ whereEqual (each (mixedLms «opsin_bias» «intensity_target»)) (channels (now (x .entry)) (now (y .entry)) (now (b .entry))) ⌝ }
+{
+    let answer = xyb_to_mixed_lms_samples(opsin_bias, intensity_target, x, y, b);
+    counts::report(answer, x, y, b)
 }

@@ -101,15 +101,32 @@ impl Case {
             .floats(&self.channels.concat())
     }
 
-    /// The width and the channels that the Rust's run ends with, after what was asked.
-    pub fn answered(&self, asked: Record) -> Record {
+    /// The width and the channels that the Rust's run ends with.
+    pub fn ended(&self) -> (usize, [Vec<f32>; 3]) {
         let mut channels = self.channels.clone();
         let [a, b, c] = &mut channels;
         let width = list(self.start, &self.ops)
             .run(&mut [a, b, c])
             .expect("a run of carried ops");
-        asked.words(&[width as u32]).floats(&channels.concat())
+        (width, channels)
     }
+
+    /// What the run ends with, after what was asked: the width, how many samples within it are infinite or NaN, and the channels.
+    pub fn answered(&self, asked: Record) -> Record {
+        let (width, channels) = self.ended();
+        asked
+            .words(&[width as u32, bad(width, &channels, 0..self.length())])
+            .floats(&channels.concat())
+    }
+}
+
+/// How many samples at these places, in the channels within the width, are infinite or NaN.
+pub fn bad(width: usize, channels: &[Vec<f32>; 3], places: std::ops::Range<usize>) -> u32 {
+    let within = channels.iter().take(width);
+    within
+        .flat_map(|channel| &channel[places.clone()])
+        .filter(|sample| !sample.is_finite())
+        .count() as u32
 }
 
 fn carried(rng: &mut Rng) -> (usize, Vec<Op>) {

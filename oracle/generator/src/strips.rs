@@ -11,13 +11,13 @@ pub fn write(rng: &mut Rng, count: usize, out: &mut impl Write) {
         let (case, cuts) = loop {
             let case = run::random(rng);
             let cuts = cuts(rng, case.length());
-            if case.asked(Kind::Strips).bytes() + 9 * (2 + cuts.len() + 3 * case.length()) <= LONGEST {
+            if case.asked(Kind::Strips).bytes() + 9 * (3 + 2 * cuts.len() + 3 * case.length()) <= LONGEST {
                 break (case, cuts);
             }
         };
         strips += cuts.len();
         refused += cuts.iter().filter(|&cut| cut % 2 == 1).count();
-        let record = case.asked(Kind::Strips).words(&[cuts.len() as u32]).words(&cuts);
+        let record = case.asked(Kind::Strips).words(&[cuts.len() as u32]).words(&cuts).words(&counts(&case, &cuts));
         case.answered(record).write(out);
     }
     eprintln!("strips: {count} runs, of {strips} strips, {refused} of them after a refused one");
@@ -44,4 +44,17 @@ fn cuts(rng: &mut Rng, length: usize) -> Vec<u32> {
             return cuts;
         }
     }
+}
+
+/// How many samples of each strip end infinite or NaN.
+fn counts(case: &run::Case, cuts: &[u32]) -> Vec<u32> {
+    let (width, channels) = case.ended();
+    let mut at = 0;
+    cuts.iter()
+        .map(|cut| {
+            let from = at;
+            at += (cut / 2) as usize;
+            run::bad(width, &channels, from..at)
+        })
+        .collect()
 }

@@ -1,14 +1,15 @@
--- `strip` runs the list on the strip where it can be run, answers what 02 says, and leaves the state as it was.
+-- `strip` runs the list on the strip where it can be run, answers what 02 says, and adds its count to the sum.
 -- A list without an ending is no open run; of one with an ending the run is refused for its lengths alone.
 use mathlib.Core.Path.{_≡_, ap, sym, subst, _∙_}
 use borrow.Author.Needs.{needs}
 use Rattle.channels.specs.Channels.{Channels, channels}
 use Rattle.run.specs.Refusals as Run
 use Rattle.run.specs.declared.Outcome.{Outcome}
+use Rattle.run.specs.declared.Ran.{Ran}
 use Rattle.run.proofs.Leaving.{not-done as run-not-done}
 use Rattle.strips.specs.Machine.{paper}
 use Rattle.strips.specs.declared.Stripping.{Stripping}
-use Rattle.strips.proofs.Arms.{equal, none-open, not-done, stays-open, unequal}
+use Rattle.strips.proofs.Arms.{accepted-strip, answered, counts, equal, none-open, not-done, unequal}
 use Rattle.strips.proofs.strip.Statement.{statement}
 use Rattle.strips.proofs.strip.Tie as tie
 
@@ -32,7 +33,7 @@ returns c =
     let h =
     none-open (z .args .state .plan) (lent z)
     (subst (λ (r : Stripping). ¬ (paper r .number ≡ 0)) (b .ending .ensures) (not-done (b .ending .result) (c .before .match .keys2)))
-    in (c .a-strip .ensures ∙ stays-open (z .args .state) (lent z) (h .0), h .1)
+    in (c .a-strip .ensures ∙ answered (z .args .state) (lent z) (h .0), h .1)
 
 run-requires : tie.Need-run-requires
 run-requires c κs = search needs
@@ -56,13 +57,17 @@ returns-2 : tie.Need-returns-2
 returns-2 c =
     let r = c .before .before .before .before .before .before .before .before in
     let k = r .before .before .before .before .before in
-    let z = k .before .before .before .before .before .before .before in (
+    let z = k .before .before .before .before .before .before .before in
+    let o = ap (λ (q : Ran). q .outcome) (r .run .ensures .0) in (
       c .a-strip2 .ensures
-          ∙ stays-open (z .args .state) (lent z)
+          ∙ answered (z .args .state) (lent z)
           (unequal (z .args .state .plan) (lent z) _ (sym (k .ready .given .1) ∙ k .before .before .ending .ensures)
-          (subst (λ (o : Outcome). ¬ (Run.paper o .number ≡ 0)) (r .run .ensures .0) (run-not-done (r .run .result) (c .before .match2 .keys2)))),
+          (subst (λ (q : Outcome). ¬ (Run.paper q .number ≡ 0)) o (run-not-done (r .run .result .outcome) (c .before .match2 .keys2)))),
       r .run .ensures .1,
     )
+
+sum-requires : tie.Need-sum-requires
+sum-requires c κs = search needs
 
 a-strip-requires-3 : tie.Need-a-strip-requires-3
 a-strip-requires-3 c κs = search needs
@@ -78,13 +83,14 @@ same-length-6 c = search needs
 
 returns-3 : tie.Need-returns-3
 returns-3 c =
-    let r = c .before .before .before .before .before .before .before .before .before in
+    let r = c .before .before .before .before .before .before .before .before .before .before in
     let k = r .before .before .before .before .before in
-    let z = k .before .before .before .before .before .before .before in (
-      c .a-strip3 .ensures
-          ∙ stays-open (z .args .state) (lent z)
-          (equal (z .args .state .plan) (lent z) _ (sym (k .ready .given .1) ∙ k .before .before .ending .ensures)
-          (ap (λ (o : Outcome). Run.paper o .number) (sym (r .run .ensures .0) ∙ c .before .enum-told .given .1))),
+    let z = k .before .before .before .before .before .before .before in
+    let ready = sym (k .ready .given .1) ∙ k .before .before .ending .ensures in
+    let o = ap (λ (q : Ran). q .outcome) (r .run .ensures .0) in
+    let reached = ap (λ (q : Outcome). Run.paper q .number) (sym o ∙ c .before .before .enum-told .given .1) in
+    let n = counts (z .args .state .plan) (lent z) _ ready (r .run .result .bad) reached (ap (λ (q : Ran). q .bad) (r .run .ensures .0)) in (
+      c .a-strip3 .ensures ∙ accepted-strip (z .args .state) (lent z) _ _ _ (equal (z .args .state .plan) (lent z) _ ready reached) n (c .before .sum .ensures),
       r .run .ensures .1,
     )
 
@@ -103,6 +109,7 @@ strip-spec =
     same-length-2
     same-length-3
     returns-2
+    sum-requires
     a-strip-requires-3
     same-length-4
     same-length-5

@@ -37,6 +37,12 @@ add-end c = search needs
 after-refused-requires : tie.Need-after-refused-requires Inv-loop μ-loop
 after-refused-requires c κs = search needs
 
+add-word : tie.Need-add-word Inv-loop μ-loop
+add-word c = search needs
+
+word-requires-3 : tie.Need-word-requires-3 Inv-loop μ-loop
+word-requires-3 c κs = search needs
+
 after-strip-requires : tie.Need-after-strip-requires Inv-loop μ-loop
 after-strip-requires c κs = search needs
 
@@ -72,6 +78,8 @@ after-strips-spec =
     cast-end
     add-end
     after-refused-requires
+    add-word
+    word-requires-3
     after-strip-requires
     loop-less
     loop-again

@@ -63,23 +63,23 @@ from-word-requires-3 c κs = search needs
 array-borrow-prefix-a : tie.Need-array-borrow-prefix-a
 array-borrow-prefix-a c = search needs
 
-slice-aggregate-runs : tie.Need-slice-aggregate-runs
-slice-aggregate-runs c = simp length-take (omega arith)
+slice-aggregate-both : tie.Need-slice-aggregate-both
+slice-aggregate-both c = simp length-take (omega arith)
 
 array-borrow-prefix-b : tie.Need-array-borrow-prefix-b
 array-borrow-prefix-b c = search needs
 
-slice-aggregate-runs-2 : tie.Need-slice-aggregate-runs-2
-slice-aggregate-runs-2 c = simp length-take (omega arith)
+slice-aggregate-both-2 : tie.Need-slice-aggregate-both-2
+slice-aggregate-both-2 c = simp length-take (omega arith)
 
 array-borrow-prefix-c : tie.Need-array-borrow-prefix-c
 array-borrow-prefix-c c = search needs
 
-slice-aggregate-runs-3 : tie.Need-slice-aggregate-runs-3
-slice-aggregate-runs-3 c = simp length-take (omega arith)
+slice-aggregate-both-3 : tie.Need-slice-aggregate-both-3
+slice-aggregate-both-3 c = simp length-take (omega arith)
 
-runs-requires : tie.Need-runs-requires
-runs-requires c κs = search needs
+both-requires : tie.Need-both-requires
+both-requires c κs = search needs
 
 returns-3 : tie.Need-returns-3
 returns-3 c = search needs
@@ -107,10 +107,10 @@ same-after-spec =
     add-from-word-3
     from-word-requires-3
     array-borrow-prefix-a
-    slice-aggregate-runs
+    slice-aggregate-both
     array-borrow-prefix-b
-    slice-aggregate-runs-2
+    slice-aggregate-both-2
     array-borrow-prefix-c
-    slice-aggregate-runs-3
-    runs-requires
+    slice-aggregate-both-3
+    both-requires
     returns-3)

@@ -1,19 +1,19 @@
--- `unchanged` answers by the lengths.
--- Each return rewrites with the test that led there.
-use mathlib.Core.Path.{sym, _∙_}
-use borrow.Author.Tests.{not-false, not-true}
+-- `unchanged` makes of the samples what `unchanged_samples` does, and reports how many are left bad.
+-- By the promises of its two calls.
+use mathlib.Core.Path.{refl}
+use Rattle.counts.proofs.Reported.{reported}
 use borrow.Author.Needs.{needs}
 use Rattle.steps.proofs.curves.unchanged.Statement.{statement}
 use Rattle.steps.proofs.curves.unchanged.Tie as tie
 
-same-lengths-requires : tie.Need-same-lengths-requires
-same-lengths-requires c κs = search needs
+unchanged-samples-requires : tie.Need-unchanged-samples-requires
+unchanged-samples-requires c κs = search needs
+
+report-requires : tie.Need-report-requires
+report-requires c κs = search needs
 
 returns : tie.Need-returns
-returns c = rw (sym (c .before .same-lengths .ensures) ∙ not-true _ (c .if1 .taken))
-
-returns-2 : tie.Need-returns-2
-returns-2 c = rw (sym (c .before .same-lengths .ensures) ∙ not-false _ (c .if1 .left))
+returns c = reported (c .report .ensures) (c .before .unchanged-samples .ensures) refl
 
 pub unchanged-spec : {M : Type 1} → statement M
-unchanged-spec = tie.close (tie.spec same-lengths-requires returns returns-2)
+unchanged-spec = tie.close (tie.spec unchanged-samples-requires report-requires returns)
