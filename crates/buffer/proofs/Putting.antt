@@ -2,14 +2,14 @@
 -- What the first put leaves before and behind its end is known, and the second begins there.
 use Prim.Native.Nat.{ℕ, _+_, _-_, _≤_, _<_}
 use mathlib.Core.Path.{_≡_, refl, sym, ap, _∙_}
-use mathlib.Core.List.{List, [], _∷_, _++_, append-assoc, append-nil}
+use mathlib.Core.List.{List, [], _++_, append-assoc, append-nil}
 use native.Mathlib.Nat.{zero-add}
 use native.Mathlib.Omega.{arith}
 use lib.ListN.{length, take, drop, length-append, length-drop, take-append-drop, drop-of-length-le}
 use lib.Seq.{length-take-le, take-all, take-at, drop-at, drop-drop}
 use borrow.Author.Tests.{le-leb, lt-leb}
 use borrow.Rule.Slice.PartMut.{midOf, postOf, putMid}
-use Rattle.buffer.specs.Buffer.{hasRoom, placed, behind, Room, Put, Listed}
+use Rattle.buffer.specs.Buffer.{placed, behind, Room, Put, Listed}
 
 head : (old : List ℕ) (at : ℕ) (s : List ℕ) → Room old at s → length (take at old ++ s) ≡ at + length s
 head old at s room =

@@ -1,6 +1,6 @@
 -- What is done to each place of equally long channels is done to joined ones as to each by itself; and joined they are equally long.
 -- By induction on the first channel.
-use mathlib.Core.Path.{_≡_, ap, refl, sym, _∙_}
+use mathlib.Core.Path.{_≡_, ap, refl}
 use mathlib.Core.List.{List, [], _∷_, _++_, map, map-append}
 use native.Mathlib.Nat.{suc-inj}
 use native.Mathlib.Omega.{arith}

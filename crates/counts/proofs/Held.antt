@@ -1,11 +1,11 @@
 -- Counts that are held: one below the bound is itself, and a sum may be held at any time.
 -- A number is at most the bound, or above it.
-use Prim.Native.Nat.{ℕ, _+_, _≤_, _<_}
+use Prim.Native.Nat.{ℕ, _+_, _≤_}
 use mathlib.Core.Path.{_≡_, ap, refl, sym, _∙_}
 use mathlib.Core.Bool.{Bool, true, false}
 use native.Mathlib.Omega.{arith}
 use lib.Dec.{leb}
-use borrow.Author.Tests.{le-leb, leb-false, leb-true, lt-leb}
+use borrow.Author.Tests.{le-leb, leb-false, leb-true}
 use Rattle.notation.specs.Choice.{if_then_else_}
 use Rattle.counts.specs.Bad.{held}
 

@@ -1,8 +1,7 @@
 -- A float that is neither infinite nor NaN lies between the infinities, and no other does.
 -- By the cases of a float.
-use Prim.Native.Nat.{ℕ}
 use mathlib.Core.Path.{_≡_, refl}
-use mathlib.Core.Bool.{Bool, true, false, not, _||_}
+use mathlib.Core.Bool.{true, false, not, _||_}
 use mir.Val.{boolByte}
 use lib.Ieee.{Float, binary32, fin, inf, lt, nan, neg, ofBits}
 use Rattle.counts.specs.Bad.{oneIfBad}

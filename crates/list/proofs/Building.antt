@@ -10,7 +10,7 @@ use lib.ListN.{length, set, take, drop, replicate, length-append, length-map, le
 use lib.Seq.{drop-at, length-take-le, set-at, take-at}
 use Rattle.op.specs.declared.Op.{Op}
 use Rattle.op.specs.declared.Op.the-variants as O
-use Rattle.list.specs.Lists.{opOf, opsOf, slot, planOf, wellFormed, Formed, lawful, Lawful, noList, listOf, appended}
+use Rattle.list.specs.Lists.{opOf, opsOf, slot, planOf, wellFormed, Formed, lawful, noList, appended}
 use Rattle.list.specs.declared.Slot.{Slot}
 use Rattle.list.specs.declared.Plan.{Plan}
 use Rattle.list.proofs.Formed.{formed-exactly, unformed-exactly, lawful-exactly}

@@ -1,11 +1,10 @@
 -- The end width of a list: that which the check tells, and 0 exactly where the check refuses it; and that of a list that goes on.
 -- Op by op. An op that finds width 0 gives 0 or fails, so a list that has failed stays at 0.
-use Prim.Native.Nat.{ℕ, _+_, _≤_}
+use Prim.Native.Nat.{ℕ, _+_}
 use mathlib.Core.Path.{_≡_, refl, ap, sym, _∙_}
 use mathlib.Core.Bool.{Bool, true, false}
 use mathlib.Core.List.{List, [], _∷_, _++_}
 use Rattle.notation.specs.Choice.{if_then_else_}
-use Rattle.notation.specs.declared.Answer.{Answer}
 use Rattle.op.specs.Widths.{fitsAt, givesOf}
 use Rattle.op.specs.declared.Curve.{Curve}
 use Rattle.op.specs.declared.Curve.the-variants as C

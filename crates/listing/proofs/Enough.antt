@@ -1,7 +1,7 @@
 -- No text is longer than 736 bytes, so 1,024 are enough.
 -- A line of an op has at most 22 bytes, and there are at most 32 of them.
 use Prim.Native.Nat.{ℕ, _+_, _*_, _≤_}
-use mathlib.Core.Path.{_≡_, refl, ap}
+use mathlib.Core.Path.{_≡_, refl}
 use mathlib.Core.Bool.{Bool, true, false}
 use mathlib.Core.List.{List, [], _∷_, _++_}
 use native.Mathlib.Omega.{arith}
@@ -19,7 +19,7 @@ use Rattle.list.specs.declared.Verdict.{Verdict}
 use Rattle.list.specs.declared.Verdict.the-variants.{Passes, Malformed, Misfit}
 use Rattle.block.specs.Block.{paper, readOf}
 use Rattle.block.specs.declared.Block.{Block}
-use Rattle.listing.specs.Words.{nameOf, digit, decimal, counted, ending}
+use Rattle.listing.specs.Words.{nameOf, decimal, counted, ending}
 use Rattle.listing.specs.Listing.{firstLine, opLine, opLines, lines, listText, planText, blockText, textOf}
 use Rattle.list.proofs.Bounds.{passes-lawful, misfit-lawful}
 

@@ -1,7 +1,7 @@
 -- Of answers in an order one is given, and no other: its cause holds, and none before it does.
 -- By induction on the order.
 use mathlib.Core.Path.{_≡_, refl}
-use mathlib.Core.List.{List, [], _∷_}
+use mathlib.Core.List.{List, _∷_}
 use Rattle.notation.specs.Order.{FirstOf, none, this, later}
 
 module _ {A : Type 0} {Cause : A → Type 0} {otherwise : A} where

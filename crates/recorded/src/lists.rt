@@ -45,17 +45,18 @@ fn strip_words(cut: bool, words: &[u8]) -> u32 {
     0
 }
 
-// A run at once, or by strips.
+// Reads the given channels, and runs the list on them, at once or by strips.
 fn reached_by(
     list: Plan,
     cut: bool,
-    strips: &[u8],
+    given: &[u8],
     a: &mut [f32],
     b: &mut [f32],
     c: &mut [f32],
 ) -> Reached {
+    record::read_channels(given, a, b, c);
     if cut {
-        return cuts::by_strips(list, strips, a, b, c);
+        return cuts::by_strips(list, from_word(given, 3 * a.len()), a, b, c);
     }
     let ran = run::run(list, a, b, c);
     let outcome = ran.outcome;
@@ -89,24 +90,8 @@ fn same_reached(reached: Reached, answer: &[u8], a: &[f32], b: &[f32], c: &[f32]
         && record::same_channels(from_word(answer, 2), a, b, c)
 }
 
-// Reads the given channels and compares what they end with, at once or by strips.
-fn runs(
-    list: Plan,
-    cut: bool,
-    given: &[u8],
-    answer: &[u8],
-    a: &mut [f32],
-    b: &mut [f32],
-    c: &mut [f32],
-) -> bool {
-    record::read_channels(given, a, b, c);
-    let strips = from_word(given, 3 * a.len());
-    let reached = reached_by(list, cut, strips, a, b, c);
-    same_reached(reached, answer, a, b, c)
-}
-
-// The same, of a list of one op, by that op's own step.
-fn steps_too(
+// Of a list of one op, what that op's own step ends with.
+fn step_same(
     list: Plan,
     given: &[u8],
     answer: &[u8],
@@ -130,7 +115,8 @@ fn steps_too(
     same_reached(reached, answer, a, b, c)
 }
 
-fn both(
+// What the channels end with, by the step of a single op, and then by the run.
+fn run_same(
     list: Plan,
     cut: bool,
     given: &[u8],
@@ -139,8 +125,11 @@ fn both(
     b: &mut [f32],
     c: &mut [f32],
 ) -> bool {
-    let same = runs(list, cut, given, answer, a, b, c);
-    steps_too(list, given, answer, a, b, c) && same
+    if !step_same(list, given, answer, a, b, c) {
+        return false;
+    }
+    let reached = reached_by(list, cut, given, a, b, c);
+    same_reached(reached, answer, a, b, c)
 }
 
 // What stands after the list: n, the channels, the strips where these are cut, and the answer.
@@ -156,7 +145,7 @@ fn same_after(list: Plan, cut: bool, words: &[u8]) -> bool {
     let mut a = [0.0f32; ROOM];
     let mut b = [0.0f32; ROOM];
     let mut c = [0.0f32; ROOM];
-    both(
+    run_same(
         list,
         cut,
         from_word(words, 1),

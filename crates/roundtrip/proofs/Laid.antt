@@ -1,7 +1,7 @@
 -- What the reader makes of the bytes of a list, whatever follows them: it reads the list, or refuses it by 10 or by 9.
 -- The head by computing, the ops by Ops.
-use Prim.Native.Nat.{ℕ, _+_, _≤_}
-use mathlib.Core.Path.{_≡_, refl, ap, sym, subst, _∙_}
+use Prim.Native.Nat.{ℕ, _≤_}
+use mathlib.Core.Path.{_≡_, refl, subst, _∙_}
 use mathlib.Core.Bool.{true, false}
 use mathlib.Core.List.{List, _++_}
 use native.Mathlib.Omega.{arith}

@@ -1,9 +1,9 @@
 -- "9 for a list the reader would refuse by 9" (W3): the writer refuses a list by 9 exactly where the reader refuses by 9 the bytes that the
 -- layout gives for it, whatever follows them; and so for 10. By what the reader makes of those bytes (Laid), in each of the three cases.
 use Prim.Native.Nat.{ℕ}
-use mathlib.Core.Path.{_≡_, refl, ap, sym, _∙_}
+use mathlib.Core.Path.{_≡_, refl, ap}
 use mathlib.Core.Bool.{Bool, true, false}
-use mathlib.Core.Logic.{_↔_, inl, inr}
+use mathlib.Core.Logic.{_↔_}
 use mathlib.Core.List.{List, _++_}
 use native.Mathlib.Omega.{arith}
 use Rattle.notation.specs.Answers.{answer}

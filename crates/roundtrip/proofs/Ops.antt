@@ -18,10 +18,10 @@ use Rattle.block.specs.Refusals.{Unreadable, bad-field, Stands, stands, AllStan
 use Rattle.block.proofs.Badness.{bad-exactly}
 use Rattle.block.proofs.Ways.{met-first, met-later}
 use Rattle.writer.specs.Bytes.{valueBytes, joined, opBytes, opsSize}
-use Rattle.writer.specs.Writing.{badValue, any, badOp}
+use Rattle.writer.specs.Writing.{any, badOp}
 use Rattle.writer.proofs.Lengths.{payload-is}
 use Rattle.writer.proofs.Walking.{neither}
-use Rattle.roundtrip.specs.Typed.{Held, All, OpHeld, AreBytes}
+use Rattle.roundtrip.specs.Typed.{All, OpHeld, AreBytes}
 use Rattle.roundtrip.proofs.Values.{values-read, values-bad, values-shape, values-written, values-good, bytes-drop}
 
 -- what is written of an op is read

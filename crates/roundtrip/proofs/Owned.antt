@@ -1,13 +1,13 @@
 -- Every list that code holds is `Typed`: room for thirty-two, every float an f32, every `g` a u32.
 -- Whoever holds a value of a declared type knows this of its fields, and of theirs in turn.
 use Prim.Native.Nat.{ℕ, zero, suc, _<_}
-use mathlib.Core.Path.{_≡_, sym, subst, _∙_}
+use mathlib.Core.Path.{sym, subst}
 use mathlib.Core.List.{List, [], _∷_, _++_, map}
 use native.Mathlib.Omega.{arith}
 use mir.Val.{Val}
 use lib.Dec.{T}
 use lib.Ieee.{Float, binary32, fits}
-use lib.ListN.{length, take, length-map}
+use lib.ListN.{take}
 use denote.Laws.{Is}
 use denote.Shadow.{shadow}
 use denote.Floats.{FloatOf}
@@ -16,13 +16,10 @@ use denote.Enum.Declared as EnumOf
 use denote.Struct.Declared as StructOf
 use denote.Enum.Laws as Enum
 use denote.Struct.Laws as Struct
-use Rattle.ciexyz.specs.declared.Vec3.{Vec3}
 use Rattle.ciexyz.proofs.Vec3 as TVec3
 use Rattle.ciexyz.proofs.Vec3.Laws as LVec3
-use Rattle.ciexyz.specs.declared.Mat3.{Mat3}
 use Rattle.ciexyz.proofs.Mat3 as TMat3
 use Rattle.ciexyz.proofs.Mat3.Laws as LMat3
-use Rattle.ciexyz.specs.declared.Xy.{Xy}
 use Rattle.ciexyz.proofs.Xy as TXy
 use Rattle.ciexyz.proofs.Xy.Laws as LXy
 use Rattle.op.specs.declared.Luminances.{Luminances}
@@ -49,7 +46,7 @@ use Rattle.list.specs.Lists.{opOf}
 use Rattle.parts.specs.declared.Value.{Value}
 use Rattle.parts.specs.declared.Value.the-variants.{Float as the-float, Flag as the-flag}
 use Rattle.parts.specs.Curves.{gammaOf}
-use Rattle.parts.specs.Parts.{luminancesValues, paramsValues, valuesOf}
+use Rattle.parts.specs.Parts.{luminancesValues, paramsValues}
 use Rattle.list.proofs.Owned.{thirty-two}
 use Rattle.roundtrip.specs.Typed.{Held, All, OpHeld, Typed}
 

@@ -1,11 +1,11 @@
 -- "Reading what was written returns the same list and the rest behind it" (W3), whatever bytes follow, and the rest is those, in their place.
 -- What stands at the front of the buffer is the block, and the reader makes of it the list (Laid).
 use Prim.Native.Nat.{ℕ, _+_}
-use mathlib.Core.Path.{_≡_, refl, ap, sym, _∙_}
+use mathlib.Core.Path.{_≡_, refl, ap, _∙_}
 use mathlib.Core.Bool.{true}
 use mathlib.Core.List.{List, _++_}
 use denote.Ref.{RefT, now, ptr}
-use lib.ListN.{length, take, drop}
+use lib.ListN.{length, take}
 use lib.Seq.{drop-at}
 use Rattle.notation.specs.Answers.{answer}
 use Rattle.notation.proofs.Tests.{fails-exactly}

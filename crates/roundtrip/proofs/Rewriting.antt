@@ -1,7 +1,7 @@
 -- "any block the reader accepts, written again from its list, gives the same block" (W3), byte for byte, where there is room for it.
 -- The list that is read is lawful and holds no bad field, and its bytes are the block's own, not what followed them.
 use Prim.Native.Nat.{ℕ, _+_, _≤_}
-use mathlib.Core.Path.{_≡_, refl, ap, sym, _∙_}
+use mathlib.Core.Path.{_≡_, ap, sym, _∙_}
 use mathlib.Core.Bool.{false}
 use mathlib.Core.List.{List, [], _∷_, _++_}
 use native.Mathlib.Omega.{arith}
@@ -10,7 +10,7 @@ use lib.Seq.{take-add}
 use Rattle.notation.specs.Answers.{answer}
 use Rattle.notation.proofs.Tests.{fails-exactly}
 use Rattle.op.specs.declared.Op.{Op}
-use Rattle.list.specs.Lists.{opsOf, planOf}
+use Rattle.list.specs.Lists.{planOf}
 use Rattle.list.proofs.Building.{ops-of}
 use Rattle.block.specs.Fields.{byteAt}
 use Rattle.block.specs.Block.{paper, readOf}

@@ -8,7 +8,7 @@ use native.Mathlib.Omega.{arith}
 use borrow.Author.Tests.{lt-ltb, ltb-false, le-leb, eqb-true, not-false}
 use lib.Dec.{T, eqb, leb, ltb}
 use lib.Ieee.{Float, binary32, ofBits, toBits, fits, isNan}
-use lib.Ieee.Bits.{ofBits-toBits, toBits-ofBits, toBits-lt, ofBits-fits}
+use lib.Ieee.Bits.{ofBits-toBits, toBits-ofBits, toBits-lt}
 use lib.ListN.{length, take, drop, length-drop}
 use lib.Seq.{drop-at, take-add, getD-drop}
 use Rattle.op.specs.declared.Curve.{Curve}

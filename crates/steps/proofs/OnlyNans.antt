@@ -4,7 +4,6 @@ use Prim.Native.Nat.{ℕ, _+_}
 use mathlib.Core.Path.{_≡_, refl}
 use mathlib.Core.Bool.{Bool, true, false}
 use mathlib.Core.List.{List, [], _∷_, map}
-use native.Mathlib.Omega.{arith}
 use lib.Ieee.{Float, fin, inf, isNan, lt, nan, ofBits}
 use Rattle.notation.specs.Choice.{if_then_else_}
 use Rattle.notation.specs.F32.{one, zero}

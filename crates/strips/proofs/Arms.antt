@@ -1,7 +1,7 @@
 -- What the arms of the code know: of a list that is not ready, and of one that is by what its run answers.
 -- By the cases of what is judged.
 use Prim.Native.Nat.{ℕ, _+_}
-use mathlib.Core.Path.{_≡_, ap, refl, sym, subst, _∙_}
+use mathlib.Core.Path.{_≡_, ap, refl, sym, _∙_}
 use mathlib.Core.Bool.{Bool, true, false}
 use mathlib.Core.List.{[], _∷_}
 use native.Mathlib.Omega.{arith}

@@ -7,7 +7,7 @@ use native.Mathlib.Omega.{arith}
 use Rattle.channels.specs.Channels.{Channels, EquallyLong}
 use Rattle.channels.proofs.Lengths.{equal-exactly}
 use Rattle.op.specs.declared.Op.{Op}
-use Rattle.list.specs.Lists.{opsOf, planOf, lawful, appended}
+use Rattle.list.specs.Lists.{opsOf, planOf, appended}
 use Rattle.list.specs.declared.Plan.{Plan}
 use Rattle.list.proofs.Building.{as-it-is, few, ops-of}
 use Rattle.list.proofs.Formed.{lawful-exactly}

@@ -1,7 +1,6 @@
 -- Sequences of calls, each on the state that the one before left: what they answer, and what the strips leave. Definitions and relations only.
 use Prim.Native.Nat.{ℕ}
-use mathlib.Core.Path.{_≡_}
-use mathlib.Core.List.{List, [], _∷_, map}
+use mathlib.Core.List.{List, [], _∷_}
 use Rattle.notation.specs.Choice.{if_then_else_}
 use Rattle.notation.specs.declared.Answer.{Answer}
 use Rattle.channels.specs.Channels.{Channels, EquallyLong, equallyLong}

@@ -1,6 +1,6 @@
 -- The cells of an op, as code holds them, up to their count are its values, and these are nine at the most.
 -- What stands past the count is not taken.
-use Prim.Native.Nat.{ℕ, _-_, _≤_}
+use Prim.Native.Nat.{_-_, _≤_}
 use mathlib.Core.Path.{_≡_, refl, ap, _∙_}
 use mathlib.Core.List.{List, [], _∷_, map}
 use native.Mathlib.Omega.{arith}

@@ -1,6 +1,6 @@
 -- The length of a block is 7 and, for each op, 1 and its payload; it is at most 1,191.
 -- A value takes the bytes of its field, and an op those of its kind's fields, 36 at the most.
-use Prim.Native.Nat.{ℕ, _+_, _*_, _≤_}
+use Prim.Native.Nat.{_+_, _*_, _≤_}
 use mathlib.Core.Path.{_≡_, refl, ap, _∙_}
 use mathlib.Core.List.{List, [], _∷_, map}
 use native.Mathlib.Omega.{arith}

@@ -1,8 +1,5 @@
 -- `count` is the count of the channels within the width, held.
 -- What is held after each channel may be held after the last alone.
-use Prim.Native.Nat.{ℕ, _+_}
-use mathlib.Core.Path.{ap, _∙_}
-use Rattle.counts.specs.Bad.{held}
 use Rattle.counts.proofs.Held.{held-twice}
 use borrow.Author.Needs.{needs}
 use Rattle.counts.proofs.count.Statement.{statement}

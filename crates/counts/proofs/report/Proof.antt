@@ -1,6 +1,5 @@
 -- `report` is a step's answer, and its count where it is not refused.
 -- By the cases of the answer.
-use mathlib.Core.Path.{refl}
 use borrow.Author.Needs.{needs}
 use Rattle.counts.proofs.report.Statement.{statement}
 use Rattle.counts.proofs.report.Tie as tie

@@ -1,7 +1,7 @@
 -- `next_in` is safe, and leaves fewer turns.
 -- A line ends within what is filled.
 use Prim.Native.Nat.{_≤_}
-use mathlib.Core.Path.{_≡_, sym}
+use mathlib.Core.Path.{sym}
 use native.Mathlib.Omega.{arith}
 use lib.ListN.{length}
 use lib.Seq.{length-take-le}

@@ -63,23 +63,23 @@ from-word-requires-3 c κs = search needs
 array-borrow-prefix-a : tie.Need-array-borrow-prefix-a
 array-borrow-prefix-a c = search needs
 
-slice-aggregate-both : tie.Need-slice-aggregate-both
-slice-aggregate-both c = simp length-take (omega arith)
+slice-aggregate-run-same : tie.Need-slice-aggregate-run-same
+slice-aggregate-run-same c = simp length-take (omega arith)
 
 array-borrow-prefix-b : tie.Need-array-borrow-prefix-b
 array-borrow-prefix-b c = search needs
 
-slice-aggregate-both-2 : tie.Need-slice-aggregate-both-2
-slice-aggregate-both-2 c = simp length-take (omega arith)
+slice-aggregate-run-same-2 : tie.Need-slice-aggregate-run-same-2
+slice-aggregate-run-same-2 c = simp length-take (omega arith)
 
 array-borrow-prefix-c : tie.Need-array-borrow-prefix-c
 array-borrow-prefix-c c = search needs
 
-slice-aggregate-both-3 : tie.Need-slice-aggregate-both-3
-slice-aggregate-both-3 c = simp length-take (omega arith)
+slice-aggregate-run-same-3 : tie.Need-slice-aggregate-run-same-3
+slice-aggregate-run-same-3 c = simp length-take (omega arith)
 
-both-requires : tie.Need-both-requires
-both-requires c κs = search needs
+run-same-requires : tie.Need-run-same-requires
+run-same-requires c κs = search needs
 
 returns-3 : tie.Need-returns-3
 returns-3 c = search needs
@@ -107,10 +107,10 @@ same-after-spec =
     add-from-word-3
     from-word-requires-3
     array-borrow-prefix-a
-    slice-aggregate-both
+    slice-aggregate-run-same
     array-borrow-prefix-b
-    slice-aggregate-both-2
+    slice-aggregate-run-same-2
     array-borrow-prefix-c
-    slice-aggregate-both-3
-    both-requires
+    slice-aggregate-run-same-3
+    run-same-requires
     returns-3)

@@ -1,6 +1,5 @@
 -- `laying::put_value` meets its contract.
 -- Each arm is a clause of `valueBytes`, once the value is known to be its variant; a float that is not bad is no NaN, and has bits.
-use Prim.Native.Nat.{ℕ}
 use mathlib.Core.Path.{_≡_, refl, sym, subst}
 use mathlib.Core.Bool.{Bool, true, false, not}
 use native.Mathlib.Omega.{arith}
