@@ -1,6 +1,6 @@
 /* The time of one call of mul_add and of cbrt, beside the C library's fmaf and cbrtf, and of one sample of screen_bytes, beside a plain
-   Rust loop of the rule before W2, in one run. Inputs: 4,096 random patterns of finite floats with exponents within 30 of 0, and 65,536
-   samples from -1/8 to 9/8; the same for both sides, in warm buffers. */
+   Rust loop of the rule before W2, in one run; with BEFORE, of cbrt also beside that of another commit. Inputs: 4,096 random patterns of
+   finite floats with exponents within 30 of 0, and 65,536 samples from -1/8 to 9/8; the same for both sides, in warm buffers. */
 #include <math.h>
 #include <stddef.h>
 #include <stdint.h>
@@ -11,6 +11,7 @@
 float rindsaddle_mul_add(float a, float b, float c);
 float rindsaddle_cbrt(float x);
 uint8_t rindsaddle_screen_bytes(const float *samples, size_t count, uint8_t *bytes, size_t room);
+float before_cbrt(float x);
 void plain_screen_bytes(const float *samples, uint8_t *bytes, size_t count);
 
 enum { COUNT = 4096, TURNS = 2000, SAMPLES = 65536, FRAMES = 200 };
@@ -55,6 +56,9 @@ TIMED(ours_mul_add, TURNS, COUNT, EACH(rindsaddle_mul_add(a[i], b[i], c[i])))
 TIMED(theirs_mul_add, TURNS, COUNT, EACH(fmaf(a[i], b[i], c[i])))
 TIMED(ours_cbrt, TURNS, COUNT, EACH(rindsaddle_cbrt(a[i])))
 TIMED(theirs_cbrt, TURNS, COUNT, EACH(cbrtf(a[i])))
+#ifdef BEFORE
+TIMED(earlier_cbrt, TURNS, COUNT, EACH(before_cbrt(a[i])))
+#endif
 TIMED(ours_screen, FRAMES, SAMPLES, rindsaddle_screen_bytes(samples, SAMPLES, bytes, SAMPLES))
 TIMED(plain_screen, FRAMES, SAMPLES, plain_screen_bytes(samples, bytes, SAMPLES))
 
@@ -67,6 +71,9 @@ int main(void) {
     for (int i = 0; i < SAMPLES; i++) sample(), samples[i] = (float)(state >> 40) / (1 << 24) * 1.25f - 0.125f;
     report("mul_add", ours_mul_add(), "fmaf", theirs_mul_add());
     report("cbrt", ours_cbrt(), "cbrtf", theirs_cbrt());
+#ifdef BEFORE
+    report("cbrt", ours_cbrt(), "before", earlier_cbrt());
+#endif
     report("screen_bytes", ours_screen(), "plain", plain_screen());
     return 0;
 }

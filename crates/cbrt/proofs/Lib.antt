@@ -1,5 +1,6 @@
 -- Laws behind `cbrt`; that the nearest root is unique and that none is nearer; and that the contract determines the answer.
 pub mod Cubes
+pub mod Digits
 pub mod Scaling
 pub mod Near
 pub mod Put

@@ -8,16 +8,19 @@ pub(crate) struct Size {
     pub a: u64,
 }
 
-// digits * 2 ^ place units: of the place, the quotient by three goes into a and the remainder into g.
+// digits * 2 ^ place units: of the place, the third goes into a, and what the third leaves into g.
 pub(crate) fn scaled(digits: u64, place: u64) -> Size
     requires { ⌜ (0 < digits) × (digits < 0x100_0000) × (place ≤ 253) ⌝ }
     ensures { λ r. ⌜ Scaled (digits * 2 ^ place) (r .g) (r .a) ⌝ }
 {
-    let mut g = (digits * 2) << (place % 3);
-    let mut a = place / 3 + 8;
+    // Below 512, 171 / 512 of a number is its third, rounded down alike. The product, the only one here, has 16 digits.
+    let third = (place * 171) >> 9;
+    let left = place - (third << 1) - third;
+    let mut g = (digits << 1) << left;
+    let mut a = third + 8;
     // Only a subnormal size has too few digits.
     while g < 0x100_0000 {
-        g = g * 8;
+        g = g << 3;
         a = a - 1;
     }
     Size { g, a }
