@@ -1,4 +1,4 @@
-//! 01's rule of screen bytes as a plain loop, which W2 replaced: what `screen_bytes` is timed beside.
+//! Plain loops that ours are timed beside: 01's rule of screen bytes, which W2 replaced, and YCbCr to RGB over bytes by W5's own rule.
 
 /// # Safety
 /// `samples` points to `count` floats, and `bytes` to room for as many bytes.
@@ -8,5 +8,31 @@ pub unsafe extern "C" fn plain_screen_bytes(samples: *const f32, bytes: *mut u8,
     let bytes = unsafe { std::slice::from_raw_parts_mut(bytes, count) };
     for (byte, sample) in bytes.iter_mut().zip(samples) {
         *byte = (sample.clamp(0.0, 1.0) * 255.0 + 0.5) as u8;
+    }
+}
+
+fn byte(p: i64, q: i64) -> u8 {
+    (2 * p + q).div_euclid(2 * q).clamp(0, 255) as u8
+}
+
+/// # Safety
+/// Each pointer points to `count` bytes, and none of the last three to bytes of another.
+#[unsafe(no_mangle)]
+pub unsafe extern "C" fn plain_ycbcr_bytes(
+    cb: *const u8,
+    y: *const u8,
+    cr: *const u8,
+    r: *mut u8,
+    g: *mut u8,
+    b: *mut u8,
+    count: usize,
+) {
+    let [cb, y, cr] = [cb, y, cr].map(|from| unsafe { std::slice::from_raw_parts(from, count) });
+    let [r, g, b] = [r, g, b].map(|to| unsafe { std::slice::from_raw_parts_mut(to, count) });
+    for i in 0..count {
+        let (u, y, v) = (cb[i] as i64 - 128, y[i] as i64, cr[i] as i64 - 128);
+        r[i] = byte(1000 * y + 1402 * v, 1000);
+        g[i] = byte(587000 * y - 202008 * u - 419198 * v, 587000);
+        b[i] = byte(1000 * y + 1772 * u, 1000);
     }
 }

@@ -3,12 +3,15 @@
 use mathlib.Core.Path.{sym, _∙_}
 use denote.Ref.{now}
 use Rattle.notation.proofs.Determines.{Determines}
+use Rattle.planes.specs.Planes.{planes}
 use Rattle.c_api.proofs.rindsaddle_mul_add.Reads as mul-add
 use Rattle.c_api.proofs.rindsaddle_mul_add.Kinds as mul-add-kinds
 use Rattle.c_api.proofs.rindsaddle_cbrt.Reads as cbrt
 use Rattle.c_api.proofs.rindsaddle_cbrt.Kinds as cbrt-kinds
 use Rattle.c_api.proofs.rindsaddle_screen_bytes.Reads as screen-bytes
 use Rattle.c_api.proofs.rindsaddle_screen_bytes.Kinds as screen-bytes-kinds
+use Rattle.c_api.proofs.rindsaddle_ycbcr_bytes.Reads as ycbcr-bytes
+use Rattle.c_api.proofs.rindsaddle_ycbcr_bytes.Kinds as ycbcr-bytes-kinds
 
 pub mul-add-determines : Determines 0 mul-add-kinds.ps mul-add-kinds.r mul-add.Post (λ κs r s. r)
 mul-add-determines κs a x y s t p q = p ∙ sym q
@@ -21,3 +24,9 @@ screen-bytes-determines κs a x y s t p q = p .0 ∙ sym (q .0)
 
 pub screen-bytes-bytes-determines : Determines 2 screen-bytes-kinds.ps screen-bytes-kinds.r screen-bytes.Post (λ κs r s. now (s .1 .0))
 screen-bytes-bytes-determines κs a x y s t p q = p .1 ∙ sym (q .1)
+
+pub ycbcr-bytes-determines : Determines 6 ycbcr-bytes-kinds.ps ycbcr-bytes-kinds.r ycbcr-bytes.Post (λ κs r s. r)
+ycbcr-bytes-determines κs a x y s t p q = p .0 ∙ sym (q .0)
+
+pub ycbcr-bytes-channels-determines : Determines 6 ycbcr-bytes-kinds.ps ycbcr-bytes-kinds.r ycbcr-bytes.Post (λ κs r s. planes (now (s .1 .1 .1 .0)) (now (s .1 .1 .1 .1 .0)) (now (s .1 .1 .1 .1 .1 .0)))
+ycbcr-bytes-channels-determines κs a x y s t p q = p .1 ∙ sym (q .1)

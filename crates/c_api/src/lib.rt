@@ -4,6 +4,10 @@ ghost use lib.Dec.{T};
 ghost use Rattle.fused.specs.Fused.{fused};
 ghost use Rattle.cbrt.specs.Root.{isRoot, cbrtOf};
 ghost use Rattle.screen.specs.Showing.{paper, showingOf, shownOf};
+ghost use Rattle.weights.specs.Weights.{t871};
+ghost use Rattle.weights.specs.Rgb.{rgbOf};
+ghost use Rattle.planes.specs.Planes.{left, planes};
+ghost use Rattle.ycbcr_bytes.specs.Conversion.{conversionOf, paper as paperOf};
 
 #[no_mangle]
 pub extern "C" fn rindsaddle_mul_add(a: f32, b: f32, c: f32) -> f32
@@ -27,4 +31,20 @@ pub extern "C" fn rindsaddle_screen_bytes(samples: &[f32], bytes: &mut [u8]) -> 
     ensures { λ _. ⌜ now (bytes .exit) ≡ shownOf (now (samples .entry)) (now (bytes .entry)) ⌝ }
 {
     screen::paper(screen::screen_bytes(samples, bytes)).number
+}
+
+// Cb, Y, Cr in; R, G, B out. 0, or the number of the refusal.
+#[no_mangle]
+pub extern "C" fn rindsaddle_ycbcr_bytes(
+    cb: &[u8],
+    y: &[u8],
+    cr: &[u8],
+    r: &mut [u8],
+    g: &mut [u8],
+    b: &mut [u8],
+) -> u8
+    ensures { λ a. ⌜ a ≡ paperOf (conversionOf (planes (now (cb .entry)) (now (y .entry)) (now (cr .entry))) (planes (now (r .entry)) (now (g .entry)) (now (b .entry)))) .number ⌝ }
+    ensures { λ _. ⌜ planes (now (r .exit)) (now (g .exit)) (now (b .exit)) ≡ left (rgbOf t871) (planes (now (cb .entry)) (now (y .entry)) (now (cr .entry))) (planes (now (r .entry)) (now (g .entry)) (now (b .entry))) ⌝ }
+{
+    ycbcr_bytes::paper(ycbcr_bytes::ycbcr_to_rgb(cb, y, cr, r, g, b)).number
 }

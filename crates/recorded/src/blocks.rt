@@ -6,7 +6,7 @@ use record::from_word;
 pub(crate) const ROOM: usize = 2048;
 
 // Byte i of these words, the first of each word in its highest two digits.
-fn byte_at(words: &[u8], i: usize) -> u8 {
+pub(crate) fn byte_at(words: &[u8], i: usize) -> u8 {
     let word = record::word(words, i / 4);
     match i % 4 {
         0 => (word / 0x100_0000) as u8,

@@ -1,5 +1,6 @@
 // Recorded answers compared with ours, by the kind of the record, which is its first word.
 mod blocks;
+mod byte_channels;
 mod conversions;
 mod cuts; // cuts.rt: runs by strips
 mod lists;
@@ -51,6 +52,8 @@ const STRIPS: u32 = 19;
 
 const WRITING: u32 = 20;
 
+const BYTES: u32 = 21;
+
 fn same_matrix(kind: u32, words: &[u8]) -> bool {
     match kind {
         MATMUL3 => matrices::same_matmul3(words),
@@ -85,6 +88,7 @@ pub fn same(line: &[u8]) -> bool {
         BLOCK => blocks::same_block(words),
         SCREEN => screens::same_screen(words),
         WRITING => writing::same_written(words),
+        BYTES => byte_channels::same_rgb(words),
         _ => same_matrix(kind, words),
     }
 }

@@ -1,6 +1,7 @@
 //! Writes lists of recorded answers to standard output: `oracle KIND SEED COUNT`. See README.md.
 
 mod block;
+mod bytes;
 mod cbrt;
 mod ciexyz;
 mod debug;
@@ -24,8 +25,8 @@ mod ycbcr;
 
 use std::io::{BufWriter, Write};
 
-const USAGE: &str = "usage: oracle fused|cbrt|ciexyz|plan|merge|run|strips|ycbcr|block|screen|writing SEED COUNT, \
-                     or oracle cbrt-census, or oracle screen-census, or oracle differences";
+const USAGE: &str = "usage: oracle fused|cbrt|ciexyz|plan|merge|run|strips|ycbcr|block|screen|writing|bytes SEED COUNT, \
+                     or oracle cbrt-census, or oracle screen-census, or oracle every-pixel, or oracle differences";
 
 fn number<T: std::str::FromStr>(word: Option<String>) -> T {
     word.and_then(|word| word.parse().ok()).expect(USAGE)
@@ -37,6 +38,7 @@ fn main() {
     match kind.as_str() {
         "cbrt-census" => return cbrt::census(),
         "screen-census" => return screen::census(),
+        "every-pixel" => return bytes::every(),
         "differences" => return differences::print(),
         _ => {}
     }
@@ -55,6 +57,7 @@ fn main() {
         "block" => block::write(rng, count, out),
         "screen" => screen::write(rng, count, out),
         "writing" => writing::write(rng, count, out),
+        "bytes" => bytes::write(rng, count, out),
         _ => panic!("{USAGE}"),
     }
     out.flush().expect("standard output");

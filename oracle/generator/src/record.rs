@@ -26,6 +26,7 @@ pub enum Kind {
     Screen = 18,
     Strips = 19,
     Writing = 20,
+    Bytes = 21,
 }
 
 /// The longest line, with its newline.

@@ -1,0 +1,3 @@
+-- Theorems: Exactly (when the conversion is refused), Determined.
+pub mod Exactly
+pub mod Determined

@@ -1,0 +1,2 @@
+-- What the conversion of byte channels answers.
+pub mod Conversion
