@@ -1,7 +1,7 @@
-/* The time of one call of mul_add and of cbrt, beside the C library's fmaf and cbrtf, of one sample of screen_bytes, beside a plain Rust
-   loop of the rule before W2, and of one pixel of ycbcr_bytes, beside a plain Rust loop of the same rule, in one run; with BEFORE, of cbrt
-   also beside that of another commit. Inputs: 4,096 random patterns of finite floats with exponents within 30 of 0, 65,536 samples from
-   -1/8 to 9/8, and 65,536 pixels of any bytes; the same for both sides, in warm buffers. */
+/* The time of one call of mul_add and of cbrt, beside the C library's fmaf and cbrtf; of one sample of screen_bytes, of one pixel of
+   ycbcr_bytes and of one code of code_levels, beside plain Rust loops of the rule before W2, of the same rule, and through a table; all in
+   one run. With BEFORE, of cbrt also beside that of another commit. Inputs: 4,096 random patterns of finite floats with exponents within 30
+   of 0, 65,536 samples from -1/8 to 9/8, 65,536 pixels of any bytes, and 65,536 codes from 0 to 1023; the same for both sides, in warm buffers. */
 #include <math.h>
 #include <stddef.h>
 #include <stdint.h>
@@ -17,10 +17,13 @@ void plain_screen_bytes(const float *samples, uint8_t *bytes, size_t count);
 uint8_t rindsaddle_ycbcr_bytes(const uint8_t *cb, size_t n_cb, const uint8_t *y, size_t n_y, const uint8_t *cr, size_t n_cr,
                                uint8_t *r, size_t n_r, uint8_t *g, size_t n_g, uint8_t *b, size_t n_b);
 void plain_ycbcr_bytes(const uint8_t *cb, const uint8_t *y, const uint8_t *cr, uint8_t *r, uint8_t *g, uint8_t *b, size_t count);
+uint8_t rindsaddle_code_levels(const uint16_t *codes, size_t count, float *levels, size_t room);
+void plain_code_levels(const uint16_t *table, const uint16_t *codes, float *levels, size_t count);
 
 enum { COUNT = 4096, TURNS = 2000, SAMPLES = 65536, FRAMES = 200 };
-static float a[COUNT], b[COUNT], c[COUNT], out[COUNT], samples[SAMPLES];
+static float a[COUNT], b[COUNT], c[COUNT], out[COUNT], samples[SAMPLES], levels[SAMPLES];
 static uint8_t bytes[SAMPLES], in[3][SAMPLES], to[3][SAMPLES];
+static uint16_t table[1024], codes[SAMPLES];
 static uint64_t state = 0x9e3779b97f4a7c15u;
 
 static float sample(void) {
@@ -68,6 +71,8 @@ TIMED(plain_screen, FRAMES, SAMPLES, plain_screen_bytes(samples, bytes, SAMPLES)
 TIMED(ours_ycbcr, FRAMES, SAMPLES,
       rindsaddle_ycbcr_bytes(in[0], SAMPLES, in[1], SAMPLES, in[2], SAMPLES, to[0], SAMPLES, to[1], SAMPLES, to[2], SAMPLES))
 TIMED(plain_ycbcr, FRAMES, SAMPLES, plain_ycbcr_bytes(in[0], in[1], in[2], to[0], to[1], to[2], SAMPLES))
+TIMED(ours_codes, FRAMES, SAMPLES, rindsaddle_code_levels(codes, SAMPLES, levels, SAMPLES))
+TIMED(plain_codes, FRAMES, SAMPLES, plain_code_levels(table, codes, levels, SAMPLES))
 
 static void report(const char *name, double ours, const char *other, double theirs) {
     printf("%-12s %6.2f ns, %-6s %6.2f ns, ratio %.1f\n", name, ours, other, theirs, ours / theirs);
@@ -77,6 +82,8 @@ int main(void) {
     for (int i = 0; i < COUNT; i++) a[i] = sample(), b[i] = sample(), c[i] = sample();
     for (int i = 0; i < SAMPLES; i++) sample(), samples[i] = (float)(state >> 40) / (1 << 24) * 1.25f - 0.125f;
     for (int i = 0; i < SAMPLES; i++) sample(), in[0][i] = state >> 40, in[1][i] = state >> 48, in[2][i] = state >> 56;
+    for (int i = 0; i < SAMPLES; i++) sample(), codes[i] = (uint16_t)(state >> 54);
+    for (int c = 0; c < 1024; c++) table[c] = (uint16_t)(c * 64); /* any table is read as fast */
     report("mul_add", ours_mul_add(), "fmaf", theirs_mul_add());
     report("cbrt", ours_cbrt(), "cbrtf", theirs_cbrt());
 #ifdef BEFORE
@@ -84,5 +91,6 @@ int main(void) {
 #endif
     report("screen_bytes", ours_screen(), "plain", plain_screen());
     report("ycbcr_bytes", ours_ycbcr(), "plain", plain_ycbcr());
+    report("code_levels", ours_codes(), "plain", plain_codes());
     return 0;
 }

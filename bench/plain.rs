@@ -1,4 +1,5 @@
-//! Plain loops that ours are timed beside: 01's rule of screen bytes, which W2 replaced, and YCbCr to RGB over bytes by W5's own rule.
+//! Plain loops that ours are timed beside: 01's rule of screen bytes, which W2 replaced; YCbCr to RGB over bytes by W5's own rule; ten-bit
+//! codes through a table that is lent.
 
 /// # Safety
 /// `samples` points to `count` floats, and `bytes` to room for as many bytes.
@@ -34,5 +35,22 @@ pub unsafe extern "C" fn plain_ycbcr_bytes(
         r[i] = byte(1000 * y + 1402 * v, 1000);
         g[i] = byte(587000 * y - 202008 * u - 419198 * v, 587000);
         b[i] = byte(1000 * y + 1772 * u, 1000);
+    }
+}
+
+/// # Safety
+/// `table` points to 1,024 levels, `codes` to `count` codes below 1,024, and `levels` to room for as many floats.
+#[unsafe(no_mangle)]
+pub unsafe extern "C" fn plain_code_levels(
+    table: *const u16,
+    codes: *const u16,
+    levels: *mut f32,
+    count: usize,
+) {
+    let table = unsafe { std::slice::from_raw_parts(table, 1024) };
+    let codes = unsafe { std::slice::from_raw_parts(codes, count) };
+    let levels = unsafe { std::slice::from_raw_parts_mut(levels, count) };
+    for (level, code) in levels.iter_mut().zip(codes) {
+        *level = table[*code as usize] as f32 / 65535.0;
     }
 }

@@ -12,6 +12,8 @@ use Rattle.c_api.proofs.rindsaddle_screen_bytes.Reads as screen-bytes
 use Rattle.c_api.proofs.rindsaddle_screen_bytes.Kinds as screen-bytes-kinds
 use Rattle.c_api.proofs.rindsaddle_ycbcr_bytes.Reads as ycbcr-bytes
 use Rattle.c_api.proofs.rindsaddle_ycbcr_bytes.Kinds as ycbcr-bytes-kinds
+use Rattle.c_api.proofs.rindsaddle_code_levels.Reads as code-levels
+use Rattle.c_api.proofs.rindsaddle_code_levels.Kinds as code-levels-kinds
 
 pub mul-add-determines : Determines 0 mul-add-kinds.ps mul-add-kinds.r mul-add.Post (λ κs r s. r)
 mul-add-determines κs a x y s t p q = p ∙ sym q
@@ -30,3 +32,9 @@ ycbcr-bytes-determines κs a x y s t p q = p .0 ∙ sym (q .0)
 
 pub ycbcr-bytes-channels-determines : Determines 6 ycbcr-bytes-kinds.ps ycbcr-bytes-kinds.r ycbcr-bytes.Post (λ κs r s. planes (now (s .1 .1 .1 .0)) (now (s .1 .1 .1 .1 .0)) (now (s .1 .1 .1 .1 .1 .0)))
 ycbcr-bytes-channels-determines κs a x y s t p q = p .1 ∙ sym (q .1)
+
+pub code-levels-determines : Determines 2 code-levels-kinds.ps code-levels-kinds.r code-levels.Post (λ κs r s. r)
+code-levels-determines κs a x y s t p q = p .0 ∙ sym (q .0)
+
+pub code-levels-levels-determines : Determines 2 code-levels-kinds.ps code-levels-kinds.r code-levels.Post (λ κs r s. now (s .1 .0))
+code-levels-levels-determines κs a x y s t p q = p .1 ∙ sym (q .1)

@@ -8,6 +8,7 @@ ghost use Rattle.weights.specs.Weights.{t871};
 ghost use Rattle.weights.specs.Rgb.{rgbOf};
 ghost use Rattle.planes.specs.Planes.{left, planes};
 ghost use Rattle.ycbcr_bytes.specs.Conversion.{conversionOf, paper as paperOf};
+ghost use Rattle.srgb10_levels.specs.Levelling.{levellingOf, leftOf, paper as paperOfLevels};
 
 #[no_mangle]
 pub extern "C" fn rindsaddle_mul_add(a: f32, b: f32, c: f32) -> f32
@@ -47,4 +48,13 @@ pub extern "C" fn rindsaddle_ycbcr_bytes(
     ensures { λ _. ⌜ planes (now (r .exit)) (now (g .exit)) (now (b .exit)) ≡ left (rgbOf t871) (planes (now (cb .entry)) (now (y .entry)) (now (cr .entry))) (planes (now (r .entry)) (now (g .entry)) (now (b .entry))) ⌝ }
 {
     ycbcr_bytes::paper(ycbcr_bytes::ycbcr_to_rgb(cb, y, cr, r, g, b)).number
+}
+
+// 0, or the number of the refusal.
+#[no_mangle]
+pub extern "C" fn rindsaddle_code_levels(codes: &[u16], levels: &mut [f32]) -> u8
+    ensures { λ r. ⌜ r ≡ paperOfLevels (levellingOf (now (codes .entry)) (now (levels .entry))) .number ⌝ }
+    ensures { λ _. ⌜ now (levels .exit) ≡ leftOf (now (codes .entry)) (now (levels .entry)) ⌝ }
+{
+    srgb10_levels::paper(srgb10_levels::code_levels(codes, levels)).number
 }

@@ -1,11 +1,12 @@
 -- "Cube root: the f32 nearest the exact root, stated over whole numbers; zeros, infinities and NaN map to themselves." (01, Samples)
 -- Definitions only. A finite float is `fin s m e`, the number m * 2 ^ e with the sign s; 2 ^ e is the fraction up e / down e (`lib.Ieee`).
-use Prim.Native.Nat.{ℕ, zero, suc, _+_, _-_, _*_, _^_}
+use Prim.Native.Nat.{ℕ, _+_, _-_, _*_, _^_}
 use mathlib.Core.Bool.{Bool, true, false, _&&_, Bool·beq}
 use lib.Dec.{leb, eqb}
 use lib.Ieee.{Float, nan, inf, fin, up, down}
 use Rattle.notation.specs.F32.{bits}
 use Rattle.notation.specs.Choice.{if_then_else_}
+use Rattle.notation.specs.First.{first}
 use Rattle.binary32.specs.Parts.{count, placeOf}
 
 abbrev pub cube : ℕ → ℕ
@@ -34,11 +35,6 @@ isRoot (inf s) (fin t q d) = false
 isRoot (fin s m e) nan = false
 isRoot (fin s m e) (inf t) = false
 isRoot (fin s m e) (fin t q d) = Bool·beq s t && (if eqb m 0 then eqb q 0 else within (count q d) (m * up e) (down e))
-
--- the first of the n numbers from i on of which p holds
-unfoldable pub first : (ℕ → Bool) → ℕ → ℕ → ℕ
-first p zero i = i
-first p (suc n) i = if p i then i else first p n (suc i)
 
 -- the f32 that is the root of x, looked for among all patterns of bits
 unfoldable pub cbrtOf : Float → Float

@@ -22,6 +22,7 @@ pub use ops::list_at;
 pub use samples::read_channels;
 pub use samples::read_samples;
 pub use samples::same_channels;
+pub use samples::same_samples;
 
 // What a digit counts, `0` to `9` and `a` to `f`.
 fn digit(b: u8) -> u32

@@ -22,7 +22,7 @@ pub fn read_channels(words: &[u8], a: &mut [f32], b: &mut [f32], c: &mut [f32]) 
 }
 
 // Whether each sample has the bits of the word in its place, with all NaNs as one.
-fn same_samples(words: &[u8], samples: &[f32]) -> bool {
+pub fn same_samples(words: &[u8], samples: &[f32]) -> bool {
     let mut i: usize = 0;
     while i < samples.len() {
         if bits_of(samples[i]) != word(words, i) {

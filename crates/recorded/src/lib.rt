@@ -1,6 +1,7 @@
 // Recorded answers compared with ours, by the kind of the record, which is its first word.
 mod blocks;
 mod byte_channels;
+mod codes;
 mod conversions;
 mod cuts; // cuts.rt: runs by strips
 mod lists;
@@ -54,6 +55,10 @@ const WRITING: u32 = 20;
 
 const BYTES: u32 = 21;
 
+const CODE: u32 = 22;
+
+const LEVELS: u32 = 23;
+
 fn same_matrix(kind: u32, words: &[u8]) -> bool {
     match kind {
         MATMUL3 => matrices::same_matmul3(words),
@@ -89,6 +94,8 @@ pub fn same(line: &[u8]) -> bool {
         SCREEN => screens::same_screen(words),
         WRITING => writing::same_written(words),
         BYTES => byte_channels::same_rgb(words),
+        CODE => codes::same_code(words),
+        LEVELS => codes::same_levels(words),
         _ => same_matrix(kind, words),
     }
 }

@@ -162,10 +162,20 @@ fn writings() {
     );
 }
 
+// 14.
+fn codes() {
+    let mut levels: [f32; 2] = [0.0, 0.0];
+    show(
+        b"the codes 1023 and 1024, of which the last is none",
+        srgb10_levels::paper(srgb10_levels::code_levels(&[1023, 1024], &mut levels)),
+    );
+}
+
 fn main() {
     plans();
     runs();
     blocks();
     strips();
     writings();
+    codes();
 }

@@ -19,14 +19,15 @@ mod record;
 mod rng;
 mod run;
 mod screen;
+mod srgb10;
 mod strips;
 mod writing;
 mod ycbcr;
 
 use std::io::{BufWriter, Write};
 
-const USAGE: &str = "usage: oracle fused|cbrt|ciexyz|plan|merge|run|strips|ycbcr|block|screen|writing|bytes SEED COUNT, \
-                     or oracle cbrt-census, or oracle screen-census, or oracle every-pixel, or oracle differences";
+const USAGE: &str = "usage: oracle fused|cbrt|ciexyz|plan|merge|run|strips|ycbcr|block|screen|writing|bytes|codes|levels SEED COUNT, \
+                     or oracle cbrt-census, or oracle screen-census, or oracle every-pixel, or oracle codes-census, or oracle differences";
 
 fn number<T: std::str::FromStr>(word: Option<String>) -> T {
     word.and_then(|word| word.parse().ok()).expect(USAGE)
@@ -39,6 +40,7 @@ fn main() {
         "cbrt-census" => return cbrt::census(),
         "screen-census" => return screen::census(),
         "every-pixel" => return bytes::every(),
+        "codes-census" => return srgb10::census(),
         "differences" => return differences::print(),
         _ => {}
     }
@@ -58,6 +60,8 @@ fn main() {
         "screen" => screen::write(rng, count, out),
         "writing" => writing::write(rng, count, out),
         "bytes" => bytes::write(rng, count, out),
+        "codes" => srgb10::write_codes(rng, count, out),
+        "levels" => srgb10::write_levels(rng, count, out),
         _ => panic!("{USAGE}"),
     }
     out.flush().expect("standard output");

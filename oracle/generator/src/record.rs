@@ -27,6 +27,8 @@ pub enum Kind {
     Strips = 19,
     Writing = 20,
     Bytes = 21,
+    Code = 22,
+    Levels = 23,
 }
 
 /// The longest line, with its newline.
