@@ -14,7 +14,7 @@ float rindsaddle_cbrt(float x);
 uint8_t rindsaddle_screen_bytes(const float *samples, size_t count, uint8_t *bytes, size_t room);
 float before_cbrt(float x);
 void plain_screen_bytes(const float *samples, uint8_t *bytes, size_t count);
-uint8_t rindsaddle_ycbcr_bytes(const uint8_t *cb, size_t n_cb, const uint8_t *y, size_t n_y, const uint8_t *cr, size_t n_cr,
+uint8_t rindsaddle_ycbcr_bytes(uint32_t firmware, const uint8_t *cb, size_t n_cb, const uint8_t *y, size_t n_y, const uint8_t *cr, size_t n_cr,
                                uint8_t *r, size_t n_r, uint8_t *g, size_t n_g, uint8_t *b, size_t n_b);
 void plain_ycbcr_bytes(const uint8_t *cb, const uint8_t *y, const uint8_t *cr, uint8_t *r, uint8_t *g, uint8_t *b, size_t count);
 uint8_t rindsaddle_code_levels(const uint16_t *codes, size_t count, float *levels, size_t room);
@@ -69,7 +69,7 @@ TIMED(earlier_cbrt, TURNS, COUNT, EACH(before_cbrt(a[i])))
 TIMED(ours_screen, FRAMES, SAMPLES, rindsaddle_screen_bytes(samples, SAMPLES, bytes, SAMPLES))
 TIMED(plain_screen, FRAMES, SAMPLES, plain_screen_bytes(samples, bytes, SAMPLES))
 TIMED(ours_ycbcr, FRAMES, SAMPLES,
-      rindsaddle_ycbcr_bytes(in[0], SAMPLES, in[1], SAMPLES, in[2], SAMPLES, to[0], SAMPLES, to[1], SAMPLES, to[2], SAMPLES))
+      rindsaddle_ycbcr_bytes(3, in[0], SAMPLES, in[1], SAMPLES, in[2], SAMPLES, to[0], SAMPLES, to[1], SAMPLES, to[2], SAMPLES))
 TIMED(plain_ycbcr, FRAMES, SAMPLES, plain_ycbcr_bytes(in[0], in[1], in[2], to[0], to[1], to[2], SAMPLES))
 TIMED(ours_codes, FRAMES, SAMPLES, rindsaddle_code_levels(codes, SAMPLES, levels, SAMPLES))
 TIMED(plain_codes, FRAMES, SAMPLES, plain_code_levels(table, codes, levels, SAMPLES))

@@ -30,7 +30,7 @@ screen-bytes-bytes-determines κs a x y s t p q = p .1 ∙ sym (q .1)
 pub ycbcr-bytes-determines : Determines 6 ycbcr-bytes-kinds.ps ycbcr-bytes-kinds.r ycbcr-bytes.Post (λ κs r s. r)
 ycbcr-bytes-determines κs a x y s t p q = p .0 ∙ sym (q .0)
 
-pub ycbcr-bytes-channels-determines : Determines 6 ycbcr-bytes-kinds.ps ycbcr-bytes-kinds.r ycbcr-bytes.Post (λ κs r s. planes (now (s .1 .1 .1 .0)) (now (s .1 .1 .1 .1 .0)) (now (s .1 .1 .1 .1 .1 .0)))
+pub ycbcr-bytes-channels-determines : Determines 6 ycbcr-bytes-kinds.ps ycbcr-bytes-kinds.r ycbcr-bytes.Post (λ κs r s. planes (now (s .1 .1 .1 .1 .0)) (now (s .1 .1 .1 .1 .1 .0)) (now (s .1 .1 .1 .1 .1 .1 .0)))
 ycbcr-bytes-channels-determines κs a x y s t p q = p .1 ∙ sym (q .1)
 
 pub code-levels-determines : Determines 2 code-levels-kinds.ps code-levels-kinds.r code-levels.Post (λ κs r s. r)

@@ -4,10 +4,10 @@ ghost use lib.Dec.{T};
 ghost use Rattle.fused.specs.Fused.{fused};
 ghost use Rattle.cbrt.specs.Root.{isRoot, cbrtOf};
 ghost use Rattle.screen.specs.Showing.{paper, showingOf, shownOf};
-ghost use Rattle.weights.specs.Weights.{t871};
 ghost use Rattle.weights.specs.Rgb.{rgbOf};
-ghost use Rattle.planes.specs.Planes.{left, planes};
-ghost use Rattle.ycbcr_bytes.specs.Conversion.{conversionOf, paper as paperOf};
+ghost use Rattle.firmware.specs.Firmware.{weightsOf};
+ghost use Rattle.firmware.specs.Conversion.{conversionOf, leftBy, paper as paperOf};
+ghost use Rattle.planes.specs.Planes.{eachPixel, equallyLong, planes};
 ghost use Rattle.srgb10_levels.specs.Levelling.{levellingOf, leftOf, paper as paperOfLevels};
 
 #[no_mangle]
@@ -37,6 +37,7 @@ pub extern "C" fn rindsaddle_screen_bytes(samples: &[f32], bytes: &mut [u8]) -> 
 // Cb, Y, Cr in; R, G, B out. 0, or the number of the refusal.
 #[no_mangle]
 pub extern "C" fn rindsaddle_ycbcr_bytes(
+    firmware: u32,
     cb: &[u8],
     y: &[u8],
     cr: &[u8],
@@ -44,10 +45,10 @@ pub extern "C" fn rindsaddle_ycbcr_bytes(
     g: &mut [u8],
     b: &mut [u8],
 ) -> u8
-    ensures { λ a. ⌜ a ≡ paperOf (conversionOf (planes (now (cb .entry)) (now (y .entry)) (now (cr .entry))) (planes (now (r .entry)) (now (g .entry)) (now (b .entry)))) .number ⌝ }
-    ensures { λ _. ⌜ planes (now (r .exit)) (now (g .exit)) (now (b .exit)) ≡ left (rgbOf t871) (planes (now (cb .entry)) (now (y .entry)) (now (cr .entry))) (planes (now (r .entry)) (now (g .entry)) (now (b .entry))) ⌝ }
+    ensures { λ a. ⌜ a ≡ paperOf (conversionOf firmware (equallyLong (planes (now (cb .entry)) (now (y .entry)) (now (cr .entry))) (planes (now (r .entry)) (now (g .entry)) (now (b .entry))))) .number ⌝ }
+    ensures { λ _. ⌜ planes (now (r .exit)) (now (g .exit)) (now (b .exit)) ≡ leftBy (conversionOf firmware (equallyLong (planes (now (cb .entry)) (now (y .entry)) (now (cr .entry))) (planes (now (r .entry)) (now (g .entry)) (now (b .entry))))) (eachPixel (rgbOf (weightsOf firmware)) (planes (now (cb .entry)) (now (y .entry)) (now (cr .entry)))) (planes (now (r .entry)) (now (g .entry)) (now (b .entry))) ⌝ }
 {
-    ycbcr_bytes::paper(ycbcr_bytes::ycbcr_to_rgb(cb, y, cr, r, g, b)).number
+    firmware::paper(ycbcr_bytes::ycbcr_to_rgb(firmware, cb, y, cr, r, g, b)).number
 }
 
 // 0, or the number of the refusal.

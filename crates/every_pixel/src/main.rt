@@ -1,4 +1,4 @@
-// All 2^24 pixels of bytes from YCbCr to RGB, Cb first and Cr last: of each channel out its digest, and how many are 0 and 255.
+// All 2^24 pixels of bytes from YCbCr to RGB, Cb first and Cr last, by each set of weights: of each channel out its digest, and how many are 0 and 255.
 use libc::STDOUT_FILENO;
 
 const MODULUS: u64 = 4294967291;
@@ -32,13 +32,13 @@ fn with(t: Tally, line: &[u8; 256]) -> Tally {
 }
 
 // A line of 256 pixels, one for each Cr.
-fn with_line(t: Tallies, cb: u8, y: u8, crs: &[u8; 256]) -> Tallies {
+fn with_line(t: Tallies, firmware: u32, cb: u8, y: u8, crs: &[u8; 256]) -> Tallies {
     let cbs = [cb; 256];
     let ys = [y; 256];
     let mut r = [0u8; 256];
     let mut g = [0u8; 256];
     let mut b = [0u8; 256];
-    ycbcr_bytes::ycbcr_to_rgb(&cbs, &ys, crs, &mut r, &mut g, &mut b);
+    ycbcr_bytes::ycbcr_to_rgb(firmware, &cbs, &ys, crs, &mut r, &mut g, &mut b);
     let tr = t.r;
     let tg = t.g;
     let tb = t.b;
@@ -49,7 +49,7 @@ fn with_line(t: Tallies, cb: u8, y: u8, crs: &[u8; 256]) -> Tallies {
     }
 }
 
-fn every() -> Tallies {
+fn every(firmware: u32) -> Tallies {
     let none = Tally {
         digest: 0,
         zeros: 0,
@@ -65,7 +65,7 @@ fn every() -> Tallies {
         crs[i] = (i % 256) as u8;
     }
     for i in 0..65536u32 {
-        t = with_line(t, (i / 256 % 256) as u8, (i % 256) as u8, &crs);
+        t = with_line(t, firmware, (i / 256 % 256) as u8, (i % 256) as u8, &crs);
     }
     t
 }
@@ -81,12 +81,20 @@ fn print(name: &[u8], t: Tally) {
     io::write_all(STDOUT_FILENO, b"\n");
 }
 
-fn main() {
-    let t = every();
+fn print_all(firmware: u32) {
+    let t = every(firmware);
     let r = t.r;
     let g = t.g;
     let b = t.b;
+    io::write_all(STDOUT_FILENO, b"firmware ");
+    io::print_decimal(STDOUT_FILENO, firmware as u64);
+    io::write_all(STDOUT_FILENO, b"\n");
     print(b"R", r);
     print(b"G", g);
     print(b"B", b);
+}
+
+fn main() {
+    print_all(3);
+    print_all(4);
 }

@@ -5,7 +5,7 @@ use mathlib.Core.Path.{_≡_}
 use native.Mathlib.Nat.{mul-le-mul}
 use native.Mathlib.Omega.{arith}
 use Rattle.weights.specs.declared.Weights.{Weights}
-use Rattle.weights.specs.Weights.{blueFactor, redFactor, t871, whole}
+use Rattle.weights.specs.Weights.{blueFactor, bt709, redFactor, t871, whole}
 use Rattle.weights.specs.Rgb.{rgbOf}
 use Rattle.pixel.specs.Factors.{capped, factorsOf, rgbBy}
 
@@ -25,6 +25,9 @@ by-factors w s =
 
 pub short-t871 : Short t871
 short-t871 = record { kr-short = omega arith; kg-short = omega arith; kb-short = omega arith }
+
+pub short-bt709 : Short bt709
+short-bt709 = record { kr-short = omega arith; kg-short = omega arith; kb-short = omega arith }
 
 -- the products of weights of 16 bits fit 64
 pub product : (a b : ℕ) → a ≤ 0xffff → b ≤ 0x3_fffc → a * b < 0x4_0000_0000

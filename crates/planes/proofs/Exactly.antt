@@ -1,4 +1,4 @@
--- The test of six lengths holds exactly where all are equal, and where they are not a conversion changes nothing.
+-- The test of six lengths holds exactly where all are equal.
 -- By the test's five comparisons.
 use Prim.Native.Nat.{ℕ}
 use mathlib.Core.Path.{_≡_, sym}
@@ -7,9 +7,8 @@ use mathlib.Core.Logic.{_↔_}
 use borrow.Author.Tests.{eq-eqb, eqb-true}
 use lib.Dec.{eqb}
 use lib.ListN.{length}
-use Rattle.notation.proofs.Tests.{both-exactly, fails-exactly}
-use Rattle.weights.specs.declared.Pixel.{Pixel}
-use Rattle.planes.specs.Planes.{EquallyLong, Planes, equallyLong, left}
+use Rattle.notation.proofs.Tests.{both-exactly}
+use Rattle.planes.specs.Planes.{EquallyLong, Planes, equallyLong}
 
 module _ (s t : Planes) where
   pub equal-exactly : (equallyLong s t ≡ true) ↔ EquallyLong s t
@@ -19,6 +18,3 @@ module _ (s t : Planes) where
     where
       same : (k : ℕ) → (eqb (length (s .a)) k ≡ true) ↔ (k ≡ length (s .a))
       same k = (λ e. sym (eqb-true (length (s .a)) k e), λ e. eq-eqb (length (s .a)) k (sym e))
-
-  pub refused-changes-nothing : (f : Pixel → Pixel) → ¬ EquallyLong s t → left f s t ≡ t
-  refused-changes-nothing f n = rw (fails-exactly equal-exactly .1 n)

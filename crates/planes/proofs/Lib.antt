@@ -1,4 +1,4 @@
--- Theorems: Exactly (when six lengths are equal, and that a refused conversion changes nothing), Determined.
+-- Theorems: Exactly (when six lengths are equal), Determined.
 pub mod Exactly
 pub mod Determined
 -- the loop that converts each pixel

@@ -1,2 +1,2 @@
--- Lent byte channels, three in and three out, and what a conversion of each pixel leaves.
+-- Lent byte channels, three in and three out, and a conversion of each pixel.
 pub mod Planes

@@ -1,12 +1,10 @@
--- "Three lent byte channels in, in the float entry's order, and three out as R, G, B. Refusals: 4 for unequal lengths, outputs untouched." (02, W5).
--- Definitions only.
+-- "Three lent byte channels in, in the float entry's order, and three out as R, G, B. Refusals: 4 for unequal lengths" (02, W5). Definitions only.
 use Prim.Native.Nat.{ℕ}
 use mathlib.Core.Path.{_≡_}
 use mathlib.Core.Bool.{Bool, _&&_}
 use mathlib.Core.List.{List, map}
 use lib.Dec.{eqb}
 use lib.ListN.{length}
-use Rattle.notation.specs.Choice.{if_then_else_}
 use Rattle.channels.specs.Channels.{zip3}
 use Rattle.weights.specs.Rgb.{pixel}
 use Rattle.weights.specs.declared.Pixel.{Pixel}
@@ -45,7 +43,3 @@ abbrev pub eachPixel : (Pixel → Pixel) → Planes → Planes
 eachPixel f s =
     let ps = map f (zip3 pixel (s .a) (s .b) (s .c)) in
     planes (map c0Of ps) (map c1Of ps) (map c2Of ps)
-
--- what a conversion of s by f leaves in t
-abbrev pub left : (Pixel → Pixel) → Planes → Planes → Planes
-left f s t = if equallyLong s t then eachPixel f s else t

@@ -1,11 +1,11 @@
-// YCbCr to RGB over bytes: the lengths of cb, y, cr, r, g, b, their bytes, four to a word; the bytes of r, g, b after, and the number.
+// YCbCr to RGB over bytes: the firmware, the lengths of cb, y, cr, r, g, b, their bytes, four to a word; the bytes of r, g, b after, and the number.
 ghost use Prim.Native.Nat.{_≤_};
 use crate::blocks::byte_at;
 use crate::blocks::read_bytes;
 use record::from_word;
 
-// More bytes of a channel than a record has room for.
-const ROOM: usize = 256;
+// More bytes or samples of a channel than a record has room for.
+pub(crate) const ROOM: usize = 256;
 
 // The words after those of n bytes.
 fn past(words: &[u8], n: usize) -> &[u8] {
@@ -50,6 +50,7 @@ fn read_three(words: &[u8], a: &mut [u8], b: &mut [u8], c: &mut [u8]) {
 
 // Reads the channels out, converts and compares what is answered and left with the answer's.
 fn converts(
+    firmware: u32,
     words: &[u8],
     cb: &[u8],
     y: &[u8],
@@ -60,11 +61,12 @@ fn converts(
 ) -> bool {
     let answer = past_three(words, r.len(), g.len(), b.len());
     read_three(words, r, g, b);
-    let reached = ycbcr_bytes::paper(ycbcr_bytes::ycbcr_to_rgb(cb, y, cr, r, g, b));
+    let reached = firmware::paper(ycbcr_bytes::ycbcr_to_rgb(firmware, cb, y, cr, r, g, b));
     left(answer, r, g, b, reached.number)
 }
 
 fn reads(
+    firmware: u32,
     words: &[u8],
     cb: &mut [u8],
     y: &mut [u8],
@@ -75,11 +77,11 @@ fn reads(
 ) -> bool {
     let outs = past_three(words, cb.len(), y.len(), cr.len());
     read_three(words, cb, y, cr);
-    converts(outs, cb, y, cr, r, g, b)
+    converts(firmware, outs, cb, y, cr, r, g, b)
 }
 
 // A length that the record gives, or 0 where there is no room for it.
-fn length(words: &[u8], k: usize) -> usize
+pub(crate) fn length(words: &[u8], k: usize) -> usize
     ensures { λ r. ⌜ r ≤ 256 ⌝ }
 {
     let n = record::word(words, k) as usize;
@@ -90,12 +92,12 @@ fn length(words: &[u8], k: usize) -> usize
 }
 
 pub(crate) fn same_rgb(words: &[u8]) -> bool {
-    let n_cb = length(words, 0);
-    let n_y = length(words, 1);
-    let n_cr = length(words, 2);
-    let n_r = length(words, 3);
-    let n_g = length(words, 4);
-    let n_b = length(words, 5);
+    let n_cb = length(words, 1);
+    let n_y = length(words, 2);
+    let n_cr = length(words, 3);
+    let n_r = length(words, 4);
+    let n_g = length(words, 5);
+    let n_b = length(words, 6);
     let mut cb = [0u8; ROOM];
     let mut y = [0u8; ROOM];
     let mut cr = [0u8; ROOM];
@@ -103,7 +105,8 @@ pub(crate) fn same_rgb(words: &[u8]) -> bool {
     let mut g = [0u8; ROOM];
     let mut b = [0u8; ROOM];
     reads(
-        from_word(words, 6),
+        record::word(words, 0),
+        from_word(words, 7),
         &mut cb[..n_cb],
         &mut y[..n_y],
         &mut cr[..n_cr],

@@ -1,8 +1,7 @@
 // Single numbers, and conversions of samples.
+use crate::byte_channels::ROOM;
+use crate::byte_channels::length;
 use record::from_word;
-
-// More samples of a channel than a record has room for.
-const ROOM: usize = 160;
 
 // a, b, c and the answer.
 pub(crate) fn same_fused(words: &[u8]) -> bool {
@@ -20,30 +19,33 @@ pub(crate) fn same_cbrt(words: &[u8]) -> bool {
     record::words(words) == 2 && record::bits_of(r) == record::word(words, 1)
 }
 
-// Reads the given channels, converts them and compares them with the answer's.
-fn converts(given: &[u8], answer: &[u8], cb: &mut [f32], y: &mut [f32], cr: &mut [f32]) -> bool {
+// Reads the given channels, converts them and compares what is answered and left with the answer's.
+fn converts(firmware: u32, given: &[u8], cb: &mut [f32], y: &mut [f32], cr: &mut [f32]) -> bool {
+    let after_cb = from_word(given, cb.len());
+    let after_y = from_word(after_cb, y.len());
+    let answer = from_word(after_y, cr.len());
     record::read_channels(given, cb, y, cr);
-    let reached = ycbcr::paper(ycbcr::ycbcr_to_rgb(cb, y, cr));
-    reached.number == 0 && record::same_channels(answer, cb, y, cr)
+    let reached = firmware::paper(ycbcr::ycbcr_to_rgb(firmware, cb, y, cr));
+    record::word(answer, 0) == reached.number as u32
+        && record::same_channels(from_word(answer, 1), cb, y, cr)
 }
 
-// n, the three channels and the three of the answer.
+// The firmware, the lengths of the three channels, these; the number, and the three after.
 pub(crate) fn same_ycbcr(words: &[u8]) -> bool {
-    let n = record::word(words, 0) as usize;
-    if n > ROOM {
-        return false;
-    }
-    if record::words(words) != 1 + 6 * n {
+    let n_cb = length(words, 1);
+    let n_y = length(words, 2);
+    let n_cr = length(words, 3);
+    if record::words(words) != 5 + 2 * (n_cb + n_y + n_cr) {
         return false;
     }
     let mut cb = [0.0f32; ROOM];
     let mut y = [0.0f32; ROOM];
     let mut cr = [0.0f32; ROOM];
     converts(
-        from_word(words, 1),
-        from_word(words, 1 + 3 * n),
-        &mut cb[..n],
-        &mut y[..n],
-        &mut cr[..n],
+        record::word(words, 0),
+        from_word(words, 4),
+        &mut cb[..n_cb],
+        &mut y[..n_y],
+        &mut cr[..n_cr],
     )
 }

@@ -162,6 +162,17 @@ fn writings() {
     );
 }
 
+// 13.
+fn conversions() {
+    let mut cb: [f32; 1] = [0.0];
+    let mut y: [f32; 1] = [0.5];
+    let mut cr: [f32; 1] = [0.0];
+    show(
+        b"a conversion for firmware 5",
+        firmware::paper(ycbcr::ycbcr_to_rgb(5, &mut cb, &mut y, &mut cr)),
+    );
+}
+
 // 14.
 fn codes() {
     let mut levels: [f32; 2] = [0.0, 0.0];
@@ -177,5 +188,6 @@ fn main() {
     blocks();
     strips();
     writings();
+    conversions();
     codes();
 }

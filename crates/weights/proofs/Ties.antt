@@ -11,7 +11,7 @@ use Rattle.weights.specs.Weights.{t871}
 use Rattle.weights.specs.Rgb.{Bytes, redAt, greenAt, blueAt}
 
 -- what is left by a divisor
-remainder : (q x r a b : ℕ) → x < q → r < q → x + q * a ≡ r + q * b → x ≡ r
+pub remainder : (q x r a b : ℕ) → x < q → r < q → x + q * a ≡ r + q * b → x ≡ r
 remainder q x r a b h k e = by (eq-zero-or-pos (a - b)) (eq-zero-or-pos (b - a))
   where
     apart : (a b x r : ℕ) → x < q → a < b → x + q * a ≡ r + q * b → ⊥

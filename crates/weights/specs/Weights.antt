@@ -9,6 +9,10 @@ weights r g b = record { kr = r; kg = g; kb = b }
 abbrev pub t871 : Weights
 t871 = weights 299 587 114
 
+-- "ITU-R BT.709-6 weights" (02, W7): 0.2126, 0.7152 and 0.0722, in ten-thousandths
+abbrev pub bt709 : Weights
+bt709 = weights 2126 7152 722
+
 -- N = kr + kg + kb
 abbrev pub whole : Weights → ℕ
 whole w = w .kr + w .kg + w .kb

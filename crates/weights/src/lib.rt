@@ -1,6 +1,6 @@
 // The weights of red, green and blue in luma, and what is converted by them.
 ghost use mathlib.Core.Path.{_≡_};
-ghost use Rattle.weights.specs.Weights.{t871};
+ghost use Rattle.weights.specs.Weights.{t871, bt709};
 
 // Red weighs kr/N, green kg/N and blue kb/N, with N = kr + kg + kb.
 pub struct Weights {
@@ -24,5 +24,16 @@ pub fn t871() -> Weights
         kr: 299,
         kg: 587,
         kb: 114,
+    }
+}
+
+// ITU-R BT.709-6, in ten-thousandths.
+pub fn bt709() -> Weights
+    ensures { λ r. ⌜ r ≡ bt709 ⌝ }
+{
+    Weights {
+        kr: 2126,
+        kg: 7152,
+        kb: 722,
     }
 }

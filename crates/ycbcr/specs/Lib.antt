@@ -1,3 +1,2 @@
--- What YCbCr to RGB makes of a sample, and what the conversion answers.
+-- What YCbCr to RGB makes of a sample, by weights.
 pub mod Ycbcr
-pub mod Conversion

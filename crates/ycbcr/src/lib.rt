@@ -1,58 +1,67 @@
-// YCbCr to RGB, after src/ycbcr.rs.
+// YCbCr to RGB, after src/ycbcr.rs, by the weights that a firmware means.
 ghost use mathlib.Core.Path.{_≡_};
-ghost use Rattle.channels.specs.Channels.{channels, each, whereEqual};
-ghost use Rattle.ycbcr.specs.Ycbcr.{rgbOf};
-ghost use Rattle.ycbcr.specs.Conversion.{paper, conversionOf};
+ghost use Rattle.channels.specs.Channels.{EquallyLong, channels, each, equallyLong};
+ghost use Rattle.firmware.specs.Firmware.{weightsOf};
+ghost use Rattle.firmware.specs.Conversion.{conversionOf, leftBy};
+ghost use Rattle.ycbcr.specs.Ycbcr.{constantsOf, part, rgbBy, rgbOf};
 use ciexyz::Vec3;
-use notation::Answer;
+use firmware::Conversion;
+use weights::Weights;
 
-// What the conversion answers.
-pub enum Conversion {
-    Done,
-    // Refusal 4: the lent lengths are unequal, and nothing was changed.
-    Unequal,
+// What Cb and Cr are multiplied by, worked out once for a channel.
+struct Constants {
+    // of Cr, for red
+    red: f32,
+    // of Cb, for blue
+    blue: f32,
+    // of Cr and of Cb, for green
+    cr: f32,
+    cb: f32,
 }
 
-// The paper's answer.
-pub fn paper(conversion: Conversion) -> Answer
-    ensures { λ r. ⌜ r ≡ paper conversion ⌝ }
+// So many of the whole.
+fn part(n: u32, whole: u32) -> f32
+    ensures { λ r. ⌜ r ≡ part n whole ⌝ }
 {
-    match conversion {
-        Conversion::Done => Answer {
-            number: 0,
-            position: 0,
-            width: 0,
-        },
-        Conversion::Unequal => Answer {
-            number: 4,
-            position: 0,
-            width: 0,
-        },
+    std::num::nearest_u32_to_f32(n) / std::num::nearest_u32_to_f32(whole)
+}
+
+fn constants_of(w: Weights) -> Constants
+    ensures { λ r. ⌜ r ≡ constantsOf w ⌝ }
+{
+    let kr = w.kr as u32;
+    let kg = w.kg as u32;
+    let kb = w.kb as u32;
+    let whole = kr + kg + kb;
+    let red = part(2 * (kg + kb), whole);
+    let blue = part(2 * (kr + kg), whole);
+    let green_weight = part(kg, whole);
+    Constants {
+        red,
+        blue,
+        cr: -part(kr, whole) * red / green_weight,
+        cb: -part(kb, whole) * blue / green_weight,
     }
 }
 
-fn rgb(cbycr: Vec3) -> Vec3
-    ensures { λ r. ⌜ r ≡ rgbOf cbycr ⌝ }
+fn rgb(k: Constants, cbycr: Vec3) -> Vec3
+    ensures { λ r. ⌜ r ≡ rgbBy k cbycr ⌝ }
 {
     let cb = cbycr.v0;
     let y = cbycr.v1 + 128.0 / 255.0;
     let cr = cbycr.v2;
-    let part = fused::mul_add(cr, -0.299 * 1.402 / 0.587, y);
+    let with_cr = fused::mul_add(cr, k.cr, y);
     Vec3 {
-        v0: fused::mul_add(cr, 1.402, y),
-        v1: fused::mul_add(cb, -0.114 * 1.772 / 0.587, part),
-        v2: fused::mul_add(cb, 1.772, y),
+        v0: fused::mul_add(cr, k.red, y),
+        v1: fused::mul_add(cb, k.cb, with_cr),
+        v2: fused::mul_add(cb, k.blue, y),
     }
 }
 
-// Cb, Y, Cr in; R, G, B out.
-pub fn ycbcr_to_rgb(cb: &mut [f32], y: &mut [f32], cr: &mut [f32]) -> Conversion
-    ensures { λ r. ⌜ r ≡ conversionOf (channels (now (cb .entry)) (now (y .entry)) (now (cr .entry))) ⌝ }
-    ensures { λ _. ⌜ channels (now (cb .exit)) (now (y .exit)) (now (cr .exit)) ≡ whereEqual (each rgbOf) (channels (now (cb .entry)) (now (y .entry)) (now (cr .entry))) ⌝ }
+fn rgb_each(k: Constants, cb: &mut [f32], y: &mut [f32], cr: &mut [f32])
+    requires { ⌜ EquallyLong (channels (now cb) (now y) (now cr)) ⌝ }
+    ensures { λ _. ⌜ channels (now (cb .exit)) (now (y .exit)) (now (cr .exit)) ≡ each (rgbBy k) (channels (now (cb .entry)) (now (y .entry)) (now (cr .entry))) ⌝ }
 {
-    if !channels::same_lengths(cb.len(), y.len(), cr.len()) {
-        return Conversion::Unequal;
-    }
     let mut i: usize = 0;
     while i < cb.len() {
         let cbycr = Vec3 {
@@ -60,11 +69,28 @@ pub fn ycbcr_to_rgb(cb: &mut [f32], y: &mut [f32], cr: &mut [f32]) -> Conversion
             v1: y[i],
             v2: cr[i],
         };
-        let out = rgb(cbycr);
+        let out = rgb(k, cbycr);
         cb[i] = out.v0;
         y[i] = out.v1;
         cr[i] = out.v2;
         i += 1;
     }
-    Conversion::Done
+}
+
+// Cb, Y, Cr in; R, G, B out.
+pub fn ycbcr_to_rgb(firmware: u32, cb: &mut [f32], y: &mut [f32], cr: &mut [f32]) -> Conversion
+    ensures { λ r. ⌜ r ≡ conversionOf firmware (equallyLong (channels (now (cb .entry)) (now (y .entry)) (now (cr .entry)))) ⌝ }
+    ensures { λ _. ⌜ channels (now (cb .exit)) (now (y .exit)) (now (cr .exit)) ≡ leftBy (conversionOf firmware (equallyLong (channels (now (cb .entry)) (now (y .entry)) (now (cr .entry))))) (each (rgbOf (weightsOf firmware)) (channels (now (cb .entry)) (now (y .entry)) (now (cr .entry)))) (channels (now (cb .entry)) (now (y .entry)) (now (cr .entry))) ⌝ }
+{
+    let equal = channels::same_lengths(cb.len(), y.len(), cr.len());
+    let answer = firmware::judge(firmware, equal);
+    match answer {
+        Conversion::Done => {
+            let k = constants_of(firmware::weights_of(firmware));
+            rgb_each(k, cb, y, cr);
+            Conversion::Done
+        }
+        Conversion::UnknownFirmware => Conversion::UnknownFirmware,
+        Conversion::Unequal => Conversion::Unequal,
+    }
 }

@@ -1,3 +1,2 @@
--- Theorems: Exactly (when the conversion is refused), Determined.
-pub mod Exactly
+-- Theorems: Determined.
 pub mod Determined

@@ -1,38 +1,13 @@
-// YCbCr to RGB over bytes, after ITU-T T.871.
+// YCbCr to RGB over bytes, by the weights that a firmware means.
 ghost use mathlib.Core.Path.{_≡_};
-ghost use Rattle.weights.specs.Weights.{t871};
 ghost use Rattle.weights.specs.Rgb.{rgbOf};
+ghost use Rattle.firmware.specs.Firmware.{weightsOf};
+ghost use Rattle.firmware.specs.Conversion.{conversionOf, leftBy};
 ghost use Rattle.pixel.specs.Factors.{rgbBy};
-ghost use Rattle.planes.specs.Planes.{EquallyLong, eachPixel, left, planes};
-ghost use Rattle.ycbcr_bytes.specs.Conversion.{conversionOf, paper};
-use notation::Answer;
+ghost use Rattle.planes.specs.Planes.{EquallyLong, eachPixel, equallyLong, planes};
+use firmware::Conversion;
 use pixel::Factors;
 use weights::Pixel;
-
-// What the conversion answers.
-pub enum Conversion {
-    Done,
-    // Refusal 4: the lent lengths are unequal, and nothing was changed.
-    Unequal,
-}
-
-// The paper's answer.
-pub fn paper(conversion: Conversion) -> Answer
-    ensures { λ r. ⌜ r ≡ paper conversion ⌝ }
-{
-    match conversion {
-        Conversion::Done => Answer {
-            number: 0,
-            position: 0,
-            width: 0,
-        },
-        Conversion::Unequal => Answer {
-            number: 4,
-            position: 0,
-            width: 0,
-        },
-    }
-}
 
 fn rgb_each(f: Factors, cb: &[u8], y: &[u8], cr: &[u8], r: &mut [u8], g: &mut [u8], b: &mut [u8])
     requires { ⌜ EquallyLong (planes (now cb) (now y) (now cr)) (planes (now r) (now g) (now b)) ⌝ }
@@ -55,6 +30,7 @@ fn rgb_each(f: Factors, cb: &[u8], y: &[u8], cr: &[u8], r: &mut [u8], g: &mut [u
 
 // Cb, Y, Cr in; R, G, B out.
 pub fn ycbcr_to_rgb(
+    firmware: u32,
     cb: &[u8],
     y: &[u8],
     cr: &[u8],
@@ -62,13 +38,18 @@ pub fn ycbcr_to_rgb(
     g: &mut [u8],
     b: &mut [u8],
 ) -> Conversion
-    ensures { λ a. ⌜ a ≡ conversionOf (planes (now (cb .entry)) (now (y .entry)) (now (cr .entry))) (planes (now (r .entry)) (now (g .entry)) (now (b .entry))) ⌝ }
-    ensures { λ _. ⌜ planes (now (r .exit)) (now (g .exit)) (now (b .exit)) ≡ left (rgbOf t871) (planes (now (cb .entry)) (now (y .entry)) (now (cr .entry))) (planes (now (r .entry)) (now (g .entry)) (now (b .entry))) ⌝ }
+    ensures { λ a. ⌜ a ≡ conversionOf firmware (equallyLong (planes (now (cb .entry)) (now (y .entry)) (now (cr .entry))) (planes (now (r .entry)) (now (g .entry)) (now (b .entry)))) ⌝ }
+    ensures { λ _. ⌜ planes (now (r .exit)) (now (g .exit)) (now (b .exit)) ≡ leftBy (conversionOf firmware (equallyLong (planes (now (cb .entry)) (now (y .entry)) (now (cr .entry))) (planes (now (r .entry)) (now (g .entry)) (now (b .entry))))) (eachPixel (rgbOf (weightsOf firmware)) (planes (now (cb .entry)) (now (y .entry)) (now (cr .entry)))) (planes (now (r .entry)) (now (g .entry)) (now (b .entry))) ⌝ }
 {
-    if !planes::same_lengths(cb.len(), y.len(), cr.len(), r.len(), g.len(), b.len()) {
-        return Conversion::Unequal;
+    let equal = planes::same_lengths(cb.len(), y.len(), cr.len(), r.len(), g.len(), b.len());
+    let answer = firmware::judge(firmware, equal);
+    match answer {
+        Conversion::Done => {
+            let f = pixel::factors_of(firmware::weights_of(firmware));
+            rgb_each(f, cb, y, cr, r, g, b);
+            Conversion::Done
+        }
+        Conversion::UnknownFirmware => Conversion::UnknownFirmware,
+        Conversion::Unequal => Conversion::Unequal,
     }
-    let f = pixel::factors_of(weights::t871());
-    rgb_each(f, cb, y, cr, r, g, b);
-    Conversion::Done
 }

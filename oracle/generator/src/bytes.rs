@@ -1,14 +1,12 @@
 //! YCbCr to RGB over bytes. The Rust has it over floats alone, so whole numbers judge, after 02.
 
+use crate::firmware::{Judged, UNKNOWN, in_turn, judged};
 use crate::record::{Kind, Record};
 use crate::rng::Rng;
 use std::io::Write;
 
 /// Cb, Y, Cr, or R, G, B.
 type Pixel = [u8; 3];
-
-/// The number of a refusal: the lent lengths are unequal (01).
-const UNEQUAL: u32 = 4;
 
 /// "the nearest whole number to that exact fraction, halves upward (below zero too), then held
 /// within 0 to 255" (02, W5): the whole number at or below p/q + 1/2.
@@ -18,12 +16,22 @@ fn byte(p: i64, q: i64) -> u8 {
 
 /// "with u = Cb - 128 and v = Cr - 128: red is Y + 1402v/1000, blue Y + 1772u/1000, green
 /// (587000Y - 202008u - 419198v)/587000" (02, W5).
-fn rgb([cb, y, cr]: Pixel) -> Pixel {
+fn t871([cb, y, cr]: Pixel) -> Pixel {
     let (u, y, v) = (cb as i64 - 128, y as i64, cr as i64 - 128);
     [
         byte(1000 * y + 1402 * v, 1000),
         byte(587000 * y - 202008 * u - 419198 * v, 587000),
         byte(1000 * y + 1772 * u, 1000),
+    ]
+}
+
+/// "red 1.5748, blue 1.8556, green from 0.0722 * 1.8556 / 0.7152 and 0.2126 * 1.5748 / 0.7152" (02, W7).
+fn bt709([cb, y, cr]: Pixel) -> Pixel {
+    let (u, y, v) = (cb as i64 - 128, y as i64, cr as i64 - 128);
+    [
+        byte(10000 * y + 15748 * v, 10000),
+        byte(71520000 * y - 722 * 18556 * u - 2126 * 15748 * v, 71520000),
+        byte(10000 * y + 18556 * u, 10000),
     ]
 }
 
@@ -44,10 +52,14 @@ fn of_pixels(rng: &mut Rng, pixels: &[Pixel]) -> Lent {
 }
 
 /// The number, and the three channels out as they are left.
-fn converted([cb, y, cr, r, g, b]: &Lent) -> (u32, [Vec<u8>; 3]) {
-    if [y, cr, r, g, b].iter().any(|other| other.len() != cb.len()) {
-        return (UNEQUAL, [r.clone(), g.clone(), b.clone()]);
-    }
+fn converted(firmware: u32, [cb, y, cr, r, g, b]: &Lent) -> (u32, [Vec<u8>; 3]) {
+    let equal = [y, cr, r, g, b].iter().all(|other| other.len() == cb.len());
+    let judged = judged(firmware, equal);
+    let rgb = match judged {
+        Judged::T871 => t871,
+        Judged::Bt709 => bt709,
+        Judged::Refused(number) => return (number, [r.clone(), g.clone(), b.clone()]),
+    };
     let pixels: Vec<Pixel> = (0..cb.len()).map(|i| rgb([cb[i], y[i], cr[i]])).collect();
     let channel = |at: usize| pixels.iter().map(|pixel| pixel[at]).collect();
     (0, [channel(0), channel(1), channel(2)])
@@ -75,20 +87,31 @@ fn edges() -> Vec<Pixel> {
 /// Pixels to a record of those that do not depend on the seed.
 const ROW: usize = 64;
 
-/// Equal lengths, and each of the six one more or one less than the others.
-fn fixed(rng: &mut Rng) -> Vec<Lent> {
+/// The ties and the edges by each firmware that is known; equal lengths, and each of the six one more or one less than
+/// the others, by these in turn; and firmwares that are not, with equal lengths and with others.
+fn fixed(rng: &mut Rng) -> Vec<(u32, Lent)> {
     let pixels = [ties(), edges()].concat();
-    let mut all: Vec<Lent> = pixels.chunks(ROW).map(|row| of_pixels(rng, row)).collect();
+    let rows = pixels.chunks(ROW).enumerate();
+    let mut all = Vec::new();
+    for (i, row) in rows {
+        all.push((1 + i as u32 % 3, of_pixels(rng, row)));
+        all.push((4, of_pixels(rng, row)));
+    }
     for length in [0, 1, 7] {
-        all.push(lent(rng, [length; 6]));
+        all.push((1 + length as u32 % 3, lent(rng, [length; 6])));
         for at in 0..6 {
             for other in [length.wrapping_sub(1), length + 1] {
                 let mut lengths = [length; 6];
                 lengths[at] = other;
                 if other != usize::MAX {
-                    all.push(lent(rng, lengths));
+                    all.push((1 + at as u32 % 4, lent(rng, lengths)));
                 }
             }
+        }
+    }
+    for firmware in UNKNOWN {
+        for lengths in [[5; 6], [4, 5, 5, 5, 5, 5], [5, 5, 5, 5, 5, 6]] {
+            all.push((firmware, lent(rng, lengths)));
         }
     }
     all
@@ -108,13 +131,16 @@ fn random(rng: &mut Rng) -> Lent {
 
 pub fn write(rng: &mut Rng, count: usize, out: &mut impl Write) {
     let mut fixed = fixed(rng).into_iter();
-    let (mut pixels, mut refused) = (0, 0);
-    for _ in 0..count {
-        let six = fixed.next().unwrap_or_else(|| random(rng));
-        let (number, left) = converted(&six);
-        pixels += if number == 0 { six[0].len() } else { 0 };
+    let (mut pixels, mut by_bt709, mut refused) = (0, 0, 0);
+    for i in 0..count {
+        let (firmware, six) = fixed.next().unwrap_or_else(|| (in_turn(i), random(rng)));
+        let (number, left) = converted(firmware, &six);
+        if number == 0 {
+            pixels += six[0].len();
+            by_bt709 += if firmware == 4 { six[0].len() } else { 0 };
+        }
         refused += (number != 0) as usize;
-        let mut record = Record::new(Kind::Bytes);
+        let mut record = Record::new(Kind::Bytes).words(&[firmware]);
         record = record.words(&six.each_ref().map(|channel| channel.len() as u32));
         for channel in &six {
             record = record.packed(channel);
@@ -124,12 +150,19 @@ pub fn write(rng: &mut Rng, count: usize, out: &mut impl Write) {
         }
         record.words(&[number]).write(out);
     }
-    eprintln!("bytes: {count} conversions of {pixels} pixels, {refused} refused");
+    eprintln!(
+        "bytes: {count} conversions of {pixels} pixels, {by_bt709} of them by BT.709, {refused} refused"
+    );
 }
 
-/// Of all 2^24 pixels, a line for each channel out: its digest, and how many are 0 and 255. The
+/// Of all 2^24 pixels by each set of weights, a line for each channel out: its digest, and how many are 0 and 255. The
 /// program `every_pixel` writes the same of ours.
 pub fn every() {
+    every_by(3, t871);
+    every_by(4, bt709);
+}
+
+fn every_by(firmware: u32, rgb: fn(Pixel) -> Pixel) {
     let mut digests = [0u64; 3];
     let mut counts = [[0u64; 256]; 3];
     for all in 0..1 << 24 {
@@ -139,6 +172,7 @@ pub fn every() {
             counts[at][out[at] as usize] += 1;
         }
     }
+    println!("firmware {firmware}");
     for (at, name) in ["R", "G", "B"].iter().enumerate() {
         println!(
             "{name} {} {} {}",
@@ -147,9 +181,38 @@ pub fn every() {
     }
 }
 
+/// Of all 2^24 pixels by each set of weights, how many have a red, a green and a blue half way between two whole numbers.
+pub fn census() {
+    for (name, n, red, blue, over, of_u, of_v) in [
+        ("T.871", 1000, 1402, 1772, 587000, 202008, 419198),
+        (
+            "BT.709",
+            10000,
+            15748,
+            18556,
+            71520000,
+            722 * 18556,
+            2126 * 15748,
+        ),
+    ] {
+        let tied = |p: i64, q: i64| (2 * p).rem_euclid(2 * q) == q;
+        let mut ties = [0; 3];
+        for all in 0i64..1 << 24 {
+            let (u, y, v) = ((all >> 16) - 128, all >> 8 & 255, (all & 255) - 128);
+            ties[0] += tied(n * y + red * v, n) as u32;
+            ties[1] += tied(over * y - of_u * u - of_v * v, over) as u32;
+            ties[2] += tied(n * y + blue * u, n) as u32;
+        }
+        println!(
+            "{name}: {} ties of red, {} of green, {} of blue",
+            ties[0], ties[1], ties[2]
+        );
+    }
+}
+
 #[cfg(test)]
 mod tests {
-    use super::{byte, rgb};
+    use super::{bt709, byte, t871};
 
     /// The one whole number n with 2qn - q <= 2p < 2qn + q, searched for, and held.
     fn searched(p: i64, q: i64) -> u8 {
@@ -168,11 +231,13 @@ mod tests {
 
     #[test]
     fn pixels() {
-        assert_eq!(rgb([128, 77, 128]), [77, 77, 77]);
-        assert_eq!(rgb([253, 0, 128])[2], 222);
-        assert_eq!(rgb([3, 222, 128])[2], 1);
-        assert_eq!(rgb([78, 100, 178])[1], 82);
-        assert_eq!(rgb([255, 255, 255]), [255, 121, 255]);
-        assert_eq!(rgb([0, 0, 0]), [0, 135, 0]);
+        assert_eq!(t871([128, 77, 128]), [77, 77, 77]);
+        assert_eq!(t871([253, 0, 128])[2], 222);
+        assert_eq!(t871([3, 222, 128])[2], 1);
+        assert_eq!(t871([78, 100, 178])[1], 82);
+        assert_eq!(t871([255, 255, 255]), [255, 121, 255]);
+        assert_eq!(t871([0, 0, 0]), [0, 135, 0]);
+        assert_eq!(bt709([128, 77, 128]), [77, 77, 77]);
+        assert_eq!(bt709([100, 128, 200]), [241, 100, 76]);
     }
 }

@@ -8,6 +8,7 @@ mod debug;
 mod differences;
 mod edges;
 mod encodings;
+mod firmware;
 mod floats;
 mod fused;
 mod libm;
@@ -27,7 +28,7 @@ mod ycbcr;
 use std::io::{BufWriter, Write};
 
 const USAGE: &str = "usage: oracle fused|cbrt|ciexyz|plan|merge|run|strips|ycbcr|block|screen|writing|bytes|codes|levels SEED COUNT, \
-                     or oracle cbrt-census, or oracle screen-census, or oracle every-pixel, or oracle codes-census, or oracle differences";
+                     or oracle cbrt-census, or oracle screen-census, or oracle every-pixel, or oracle tie-census, or oracle codes-census, or oracle differences";
 
 fn number<T: std::str::FromStr>(word: Option<String>) -> T {
     word.and_then(|word| word.parse().ok()).expect(USAGE)
@@ -40,6 +41,7 @@ fn main() {
         "cbrt-census" => return cbrt::census(),
         "screen-census" => return screen::census(),
         "every-pixel" => return bytes::every(),
+        "tie-census" => return bytes::census(),
         "codes-census" => return srgb10::census(),
         "differences" => return differences::print(),
         _ => {}

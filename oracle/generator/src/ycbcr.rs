@@ -1,24 +1,111 @@
-//! YCbCr to RGB.
+//! YCbCr to RGB over floats. The Rust has T.871 alone and judges firmware 1 to 3; for 4 the same
+//! operations with 02's constants stand here.
 
 use crate::edges::{ORDINARY, at_edges};
+use crate::firmware::{Judged, UNKNOWN, in_turn, judged};
 use crate::record::{Kind, Record};
 use crate::rng::Rng;
 use given::ycbcr_to_rgb;
 use std::io::Write;
 
+/// Cb, Y, Cr, or R, G, B.
+type Channels = [Vec<f32>; 3];
+
+/// "red 1.5748, blue 1.8556, green from 0.0722 * 1.8556 / 0.7152 and 0.2126 * 1.5748 / 0.7152",
+/// "the same order of operations with the new constants" (02, W7).
+fn bt709([cb, y, cr]: [f32; 3]) -> [f32; 3] {
+    let y = y + 128.0f32 / 255.0;
+    let red: f32 = 1.5748;
+    let blue: f32 = 1.8556;
+    let green_cr = -0.2126f32 * red / 0.7152;
+    let green_cb = -0.0722f32 * blue / 0.7152;
+    [
+        cr.mul_add(red, y),
+        cb.mul_add(green_cb, cr.mul_add(green_cr, y)),
+        cb.mul_add(blue, y),
+    ]
+}
+
+/// The number, and the channels as they are left.
+fn converted(firmware: u32, mut channels: Channels) -> (u32, Channels) {
+    let equal = channels
+        .iter()
+        .all(|other| other.len() == channels[0].len());
+    let judged = judged(firmware, equal);
+    match judged {
+        Judged::T871 => {
+            let [cb, y, cr] = &mut channels;
+            ycbcr_to_rgb([cb, y, cr]);
+        }
+        Judged::Bt709 => {
+            for i in 0..channels[0].len() {
+                let rgb = bt709([channels[0][i], channels[1][i], channels[2][i]]);
+                for (channel, sample) in channels.iter_mut().zip(rgb) {
+                    channel[i] = sample;
+                }
+            }
+        }
+        Judged::Refused(_) => {}
+    }
+    (judged.number(), channels)
+}
+
+/// Three channels of these lengths.
+fn lent(rng: &mut Rng, lengths: [usize; 3]) -> Channels {
+    lengths.map(|length| rng.samples(length))
+}
+
+/// Refused ones: a firmware that is not known, or lengths that are unequal, or both.
+fn refused(rng: &mut Rng) -> Vec<(u32, Channels)> {
+    let lengths = [[0, 0, 0], [3, 3, 3], [2, 3, 3], [3, 4, 3], [3, 3, 0]];
+    let mut all = Vec::new();
+    for firmware in [1, 2, 3, 4].into_iter().chain(UNKNOWN) {
+        for these in lengths {
+            all.push((firmware, lent(rng, these)));
+        }
+    }
+    all
+}
+
+/// The edges, in each channel and in all three, by each firmware that the Rust judges in turn, then by 4; and the refused ones.
+fn fixed(rng: &mut Rng) -> Vec<(u32, Channels)> {
+    let edges = || at_edges(ORDINARY).map(|pixel| pixel.map(|sample| vec![sample]));
+    let of_rust = edges()
+        .enumerate()
+        .map(|(i, channels)| (1 + i as u32 % 3, channels));
+    let of_bt709 = edges().map(|channels| (4, channels));
+    of_rust.chain(of_bt709).chain(refused(rng)).collect()
+}
+
 pub fn write(rng: &mut Rng, count: usize, out: &mut impl Write) {
-    let mut edges = at_edges(ORDINARY).map(|pixel| pixel.map(|sample| vec![sample]));
-    for _ in 0..count {
-        let mut channels = edges.next().unwrap_or_else(|| {
+    let mut fixed = fixed(rng).into_iter();
+    let (mut by_bt709, mut refused) = (0, 0);
+    for i in 0..count {
+        let (firmware, channels) = fixed.next().unwrap_or_else(|| {
             let length = rng.length();
-            std::array::from_fn(|_| rng.samples(length))
+            (in_turn(i), lent(rng, [length; 3]))
         });
         let record = Record::new(Kind::Ycbcr)
-            .words(&[channels[0].len() as u32])
+            .words(&[firmware])
+            .words(&channels.each_ref().map(|channel| channel.len() as u32))
             .floats(&channels.concat());
-        let [cb, y, cr] = &mut channels;
-        ycbcr_to_rgb([cb, y, cr]);
-        record.floats(&channels.concat()).write(out);
+        let (number, left) = converted(firmware, channels);
+        by_bt709 += (number == 0 && firmware == 4) as usize;
+        refused += (number != 0) as usize;
+        record.words(&[number]).floats(&left.concat()).write(out);
     }
-    eprintln!("ycbcr: {count} conversions");
+    eprintln!("ycbcr: {count} conversions, {by_bt709} by BT.709, {refused} refused");
+}
+
+#[cfg(test)]
+mod tests {
+    use super::bt709;
+
+    /// Green's constants as 02's expressions round: where one chroma is 1 and the raised luma is 0.
+    #[test]
+    fn constants() {
+        let dark = -128.0f32 / 255.0;
+        assert_eq!(bt709([1.0, dark, 0.0])[1].to_bits(), 0xbe3f_d1ee);
+        assert_eq!(bt709([0.0, dark, 1.0])[1].to_bits(), 0xbeef_adfc);
+    }
 }

@@ -2,7 +2,7 @@
 -- By the contracts of the two functions that it calls.
 use mathlib.Core.Path.{ap, _∙_}
 use Rattle.notation.specs.declared.Answer.{Answer}
-use Rattle.ycbcr_bytes.specs.Conversion.{paper}
+use Rattle.firmware.specs.Conversion.{paper}
 use lib.ListN.{length}
 use borrow.Author.Needs.{needs}
 use Rattle.c_api.proofs.rindsaddle_ycbcr_bytes.Statement.{statement}

@@ -6,16 +6,16 @@ use Rattle.every_pixel.proofs.every.Statement.{statement}
 use Rattle.every_pixel.proofs.every.Tie as tie
 
 abbrev Inv-loop : tie.InvT-loop
-Inv-loop t crs₀ i₀ crs i = i ≤ 256
+Inv-loop firmware t crs₀ i₀ crs i = i ≤ 256
 
 abbrev μ-loop : tie.MeasureT-loop
-μ-loop t crs₀ i₀ crs i = 256 - i
+μ-loop firmware t crs₀ i₀ crs i = 256 - i
 
 abbrev Inv-loop2 : tie.InvT-loop2
-Inv-loop2 t₀ crs i₀ t i = i ≤ 65536
+Inv-loop2 firmware t₀ crs i₀ t i = i ≤ 65536
 
 abbrev μ-loop2 : tie.MeasureT-loop2
-μ-loop2 t₀ crs i₀ t i = 65536 - i
+μ-loop2 firmware t₀ crs i₀ t i = 65536 - i
 
 loop-holds : tie.Need-loop-holds Inv-loop μ-loop Inv-loop2 μ-loop2
 loop-holds c = search needs

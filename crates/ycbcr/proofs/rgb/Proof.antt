@@ -1,7 +1,7 @@
--- `rgb` is `rgbOf`.
+-- `rgb` is `rgbBy`.
 -- Each of the three is fused, by `mul_add`'s contract.
 use borrow.Author.Needs.{needs}
-use Rattle.ycbcr.specs.Ycbcr.{greenOfCb, greenOfCr, raised, rgbOf}
+use Rattle.ycbcr.specs.Ycbcr.{raised, rgbBy}
 use Rattle.ycbcr.proofs.rgb.Statement.{statement}
 use Rattle.ycbcr.proofs.rgb.Tie as tie
 
@@ -18,7 +18,7 @@ mul-add-requires-4 : tie.Need-mul-add-requires-4
 mul-add-requires-4 c κs = search needs
 
 returns : tie.Need-returns
-unfolding rgbOf raised greenOfCr greenOfCb
+unfolding rgbBy raised
 returns c = cc
 
 pub rgb-spec : {M : Type 1} → statement M

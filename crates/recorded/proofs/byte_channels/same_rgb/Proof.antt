@@ -24,6 +24,9 @@ length-requires-5 c κs = search needs
 length-requires-6 : tie.Need-length-requires-6
 length-requires-6 c κs = search needs
 
+word-requires : tie.Need-word-requires
+word-requires c κs = search needs
+
 from-word-requires : tie.Need-from-word-requires
 from-word-requires c κs = search needs
 
@@ -79,6 +82,7 @@ same-rgb-spec =
     length-requires-4
     length-requires-5
     length-requires-6
+    word-requires
     from-word-requires
     array-borrow-prefix-cb
     slice-aggregate-reads

@@ -6,38 +6,38 @@ use borrow.Author.Needs.{needs}
 use Rattle.recorded.proofs.conversions.same_ycbcr.Statement.{statement}
 use Rattle.recorded.proofs.conversions.same_ycbcr.Tie as tie
 
-word-requires : tie.Need-word-requires
-word-requires c κs = search needs
+length-requires : tie.Need-length-requires
+length-requires c κs = search needs
 
-cast-n : tie.Need-cast-n
-cast-n c = search needs
+length-requires-2 : tie.Need-length-requires-2
+length-requires-2 c κs = search needs
 
-returns : tie.Need-returns
-returns c = search needs
+length-requires-3 : tie.Need-length-requires-3
+length-requires-3 c κs = search needs
 
 words-requires : tie.Need-words-requires
 words-requires c κs = search needs
 
-mul-if2 : tie.Need-mul-if2
-mul-if2 c = search needs
+add-if1 : tie.Need-add-if1
+add-if1 c = search needs
 
-add-if2 : tie.Need-add-if2
-add-if2 c = search needs
+add-if1-2 : tie.Need-add-if1-2
+add-if1-2 c = search needs
 
-returns-2 : tie.Need-returns-2
-returns-2 c = search needs
+mul-if1 : tie.Need-mul-if1
+mul-if1 c = search needs
+
+add-if1-3 : tie.Need-add-if1-3
+add-if1-3 c = search needs
+
+returns : tie.Need-returns
+returns c = search needs
+
+word-requires : tie.Need-word-requires
+word-requires c κs = search needs
 
 from-word-requires : tie.Need-from-word-requires
 from-word-requires c κs = search needs
-
-mul-from-word : tie.Need-mul-from-word
-mul-from-word c = search needs
-
-add-from-word : tie.Need-add-from-word
-add-from-word c = search needs
-
-from-word-requires-2 : tie.Need-from-word-requires-2
-from-word-requires-2 c κs = search needs
 
 array-borrow-prefix-cb : tie.Need-array-borrow-prefix-cb
 array-borrow-prefix-cb c = search needs
@@ -60,24 +60,24 @@ slice-aggregate-converts-3 c = simp length-take (omega arith)
 converts-requires : tie.Need-converts-requires
 converts-requires c κs = search needs
 
-returns-3 : tie.Need-returns-3
-returns-3 c = search needs
+returns-2 : tie.Need-returns-2
+returns-2 c = search needs
 
 pub same-ycbcr-spec : {M : Type 1} → statement M
 same-ycbcr-spec =
     tie.close
     (tie.spec
-    word-requires
-    cast-n
-    returns
+    length-requires
+    length-requires-2
+    length-requires-3
     words-requires
-    mul-if2
-    add-if2
-    returns-2
+    add-if1
+    add-if1-2
+    mul-if1
+    add-if1-3
+    returns
+    word-requires
     from-word-requires
-    mul-from-word
-    add-from-word
-    from-word-requires-2
     array-borrow-prefix-cb
     slice-aggregate-converts
     array-borrow-prefix-y
@@ -85,4 +85,4 @@ same-ycbcr-spec =
     array-borrow-prefix-cr
     slice-aggregate-converts-3
     converts-requires
-    returns-3)
+    returns-2)

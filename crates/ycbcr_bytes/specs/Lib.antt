@@ -1,2 +1,0 @@
--- What the conversion of byte channels answers.
-pub mod Conversion
