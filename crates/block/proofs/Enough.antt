@@ -1,8 +1,8 @@
--- No block is longer than 1,191 bytes: so many are enough to read it, whatever follows.
+-- No block is longer than 1,192 bytes: so many are enough to read it, whatever follows.
 -- An op takes at most 37 bytes, and looks at no more.
 use Prim.Native.Nat.{ℕ, zero, suc, _-_, _*_, _≤_, _<_}
-use mathlib.Core.Path.{_≡_, refl, ap}
-use mathlib.Core.Bool.{Bool, true, false}
+use mathlib.Core.Path.{_≡_, refl, ap, sym, _∙_}
+use mathlib.Core.Bool.{Bool, true, false, not}
 use mathlib.Core.Logic.{⊎-elim}
 use mathlib.Core.List.{List, [], _∷_}
 use native.Mathlib.Omega.{arith}
@@ -15,13 +15,14 @@ use Rattle.list.specs.Lists.{wellFormed}
 use Rattle.op.specs.declared.Op.{Op}
 use Rattle.list.proofs.Formed.{formed-exactly}
 use Rattle.block.specs.Fields.{byteAt, payloadOf}
-use Rattle.block.specs.Block.{refusedBy, rightMark, opIn, afterKind, onFound, before, opsIn, listed, readOf}
+use Rattle.block.specs.Block.{refusedBy, versionOf, rightMark, headOf, opIn, afterKind, onFound, before, opsIn, readBehind, readOf}
 use Rattle.block.specs.Refusals.{Stands, stands}
-use Rattle.block.specs.declared.Reading.the-variants.{WrongMark, Malformed}
+use Rattle.block.specs.declared.Reading.the-variants.{WrongMark}
 use Rattle.block.specs.declared.Found.{Found}
 use Rattle.block.specs.declared.Found.the-variants.{Whole, Refused}
 use Rattle.block.proofs.Layouts.{payload-small}
 use Rattle.block.proofs.Heads.{drop-take, same-byte}
+use Rattle.block.proofs.Versions.{head-within}
 use Rattle.block.proofs.Ways.{found-stands}
 
 op-enough : (s : List ℕ) (k : ℕ) → 37 ≤ k → opIn (take k s) ≡ opIn s
@@ -49,19 +50,27 @@ ops-enough (suc n) s k h = rw (op-enough s k (omega arith)) (by (opIn s) refl (�
     by (Whole o size) e rest = rw (drop-take size k s, rest size (op-small (found-stands s e)))
     by (Refused reading) e rest = refl
 
-pub enough : (s : List ℕ) (k : ℕ) → 1191 ≤ k → readOf (take k s) ≡ readOf s
+-- of a slice that has its head whole, the mark decides, and then what is behind the head
+headed : (s : List ℕ) → 8 ≤ length s → readOf s ≡ (if not (rightMark s) then refusedBy WrongMark else readBehind (versionOf s) s)
+headed s h =
+    let seven : 7 ≤ length s = omega arith in
+    let all : headOf (versionOf s) ≤ length s = omega (arith, head-within (versionOf s) .1) in
+    rw (le-ltb (length s) 7 seven, le-ltb (length s) (headOf (versionOf s)) all)
+
+pub enough : (s : List ℕ) (k : ℕ) → 1192 ≤ k → readOf (take k s) ≡ readOf s
 enough s k h = ⊎-elim (λ l. ap readOf (take-all k s l)) cut (split-le (length s) k)
   where
-    behind : (b : Bool) → wellFormed (byteAt s 5) (byteAt s 6) ≡ b
-        → (if rightMark s then if wellFormed (byteAt s 5) (byteAt s 6) then listed (byteAt s 5) (opsIn (byteAt s 6) (take (k - 7) (drop 7 s))) else refusedBy Malformed else refusedBy WrongMark)
-        ≡ (if rightMark s then if wellFormed (byteAt s 5) (byteAt s 6) then listed (byteAt s 5) (opsIn (byteAt s 6) (drop 7 s)) else refusedBy Malformed else refusedBy WrongMark)
-    behind true e = let c = formed-exactly (byteAt s 5) (byteAt s 6) .0 e .1 in rw (ops-enough (byteAt s 6) (drop 7 s) (k - 7) (omega arith))
-    behind false e = rw e
+    at : (i : ℕ) → i < 8 → byteAt (take k s) i ≡ byteAt s i
+    at = same-byte 8 s (take k s) (take-take 8 k s (omega arith))
+
+    behind : (v : ℕ) (b : Bool) → wellFormed (byteAt s 5) (byteAt s 6) ≡ b → readBehind v (take k s) ≡ readBehind v s
+    behind v true e =
+        let c = formed-exactly (byteAt s 5) (byteAt s 6) .0 e .1 in
+        rw (at 5 (omega arith), at 6 (omega arith), at 7 (omega arith), e, drop-take (headOf v) k s, ops-enough (byteAt s 6) (drop (headOf v) s) (k - headOf v) (omega (arith, head-within v .1)))
+    behind v false e = rw (at 5 (omega arith), at 6 (omega arith), e)
 
     cut : k < length s → readOf (take k s) ≡ readOf s
     cut l =
-        let at = same-byte s (take k s) (take-take 7 k s (omega arith)) in
-        let long : 7 ≤ length (take k s) = omega (arith, length-take k s) in
-        let also : 7 ≤ length s = omega arith in
-        rw (le-ltb (length (take k s)) 7 long, le-ltb (length s) 7 also, at 0 (omega arith), at 1 (omega arith), at 2 (omega arith), at 3 (omega arith), at 4 (omega arith), at 5 (omega arith), at 6 (omega arith), drop-take 7 k s)
-        (behind (wellFormed (byteAt s 5) (byteAt s 6)) refl)
+        headed (take k s) (omega (arith, length-take k s))
+        ∙ (rw (at 0 (omega arith), at 1 (omega arith), at 2 (omega arith), at 3 (omega arith), at 4 (omega arith), behind (versionOf s) (wellFormed (byteAt s 5) (byteAt s 6)) refl))
+        ∙ sym (headed s (omega arith))

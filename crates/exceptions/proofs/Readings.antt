@@ -10,7 +10,7 @@ use Rattle.notation.specs.F32.{bits, zero}
 use Rattle.ciexyz.specs.declared.WhitePoint.{WhitePoint}
 use Rattle.ciexyz.specs.declared.WhitePoint.the-variants as W
 use Rattle.ciexyz.specs.declared.Primaries.the-variants as P
-use Rattle.list.specs.Lists.{opsOf}
+use Rattle.list.specs.Lists.{opsOf, isTrue}
 use Rattle.op.specs.declared.Curve.{Curve}
 use Rattle.op.specs.declared.Curve.the-variants as C
 use Rattle.parts.specs.Parts.{kindOf}
@@ -64,7 +64,7 @@ d65 = W.Custom (record { x = pos 312_700; y = pos 329_000 })
 -- "Rgb D65 Srgb Linear Relative to the same with Custom white (312700, 329000), intensity 255: TransferFunction, Clip, Matrix"
 pub custom-white :
     read rgb (side S.Rgb d65 C.Linear I.Relative) (at (bits 0x437f_0000) false) ≡ reading 0 (4 ∷ 9 ∷ 3 ∷ []) (answer 0 0 3)
-unfolding lt ofBits ofFields
+unfolding lt ofBits ofFields isTrue
 custom-white = refl
 
 -- "Intensity 255.0 no tone map; the next float above, one." NaN: none

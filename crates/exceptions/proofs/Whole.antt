@@ -11,13 +11,13 @@ use Rattle.notation.specs.Choice.{if_then_else_}
 use Rattle.ciexyz.specs.Points.{illuminantOf}
 use Rattle.ciexyz.specs.Xyz.{toXyz, fromXyz, adaptOf}
 use Rattle.ciexyz.specs.declared.Primaries.the-variants as P
-use Rattle.list.specs.Lists.{planOf, Lawful}
+use Rattle.list.specs.Lists.{planOf, Formed, Lawful}
 use Rattle.same.specs.Same.{sameCurve}
 use Rattle.op.specs.declared.Curve.the-variants as C
 use Rattle.op.specs.declared.Op.{Op}
 use Rattle.list.specs.declared.Plan.{Plan}
-use Rattle.list.proofs.Building.{ops-of}
-use Rattle.list.proofs.Formed.{formed-exactly}
+use Rattle.list.proofs.Building.{plan-true}
+use Rattle.list.proofs.Formed.{formed-exactly, lawful-exactly}
 use Rattle.notation.specs.Answers.{answer}
 use Rattle.notation.specs.declared.Answer.{Answer}
 use Rattle.list.specs.Answer.{paper}
@@ -160,7 +160,10 @@ module _ (source target : EnumColourEncoding) (settings : Settings) where
 
   -- the check on a list that begins at the source's width
   pub checked : (os : List Op) → length os ≤ 10 → paper (checkOf (planOf (channelsOf source) os)) .width ≡ endFrom (channelsOf source) os
-  checked os h = told (planOf (channelsOf source) os) ∙ rw (formed-exactly (channelsOf source) (length os) .1 (one-or-three source, omega arith), ops-of (channelsOf source) os)
+  checked os h =
+      let q = planOf (channelsOf source) os in
+      let l : Formed (channelsOf source) (length os) = (one-or-three source, omega arith) in
+      told q ∙ rw (lawful-exactly q .1 (l, plan-true (channelsOf source) os)) (rw (formed-exactly (channelsOf source) (length os) .1 l))
 
   -- and on the merged list
   pub of-merged : paper (checkOf (planOf (channelsOf source) (mergeOps (stageOps source target settings)))) .width ≡ unless (exception source target) (channelsOf target)
@@ -180,9 +183,10 @@ refused e d = absurd (d (ap (λ (a : Answer). a .number) e))
 -- a plan that is not refused is lawful
 pub done-lawful : (s t : EnumColourEncoding) (settings : Settings) {p : Planned} → Sorted s t settings p → Planner.paper (p .answer) ≡ answer 0 0 0 → Lawful (p .plan)
 done-lawful s t settings (outside o) n = refused n (omega arith)
-done-lawful s t settings (same i e) n = (one-or-three s, omega arith)
+done-lawful s t settings (same i e) n = ((one-or-three s, omega arith), plan-true (channelsOf s) [])
 done-lawful s t settings (lacking i d l) n = refused n (omega arith)
-done-lawful s t settings (made i d l) n = (one-or-three s, omega (arith, no-longer (stageOps s t settings), at-most-ten s t settings))
+done-lawful s t settings (made i d l) n =
+    ((one-or-three s, omega (arith, no-longer (stageOps s t settings), at-most-ten s t settings)), plan-true (channelsOf s) (mergeOps (stageOps s t settings)))
 
 -- and the check tells its end width but for the exceptions
 pub done-verdict : (s t : EnumColourEncoding) (settings : Settings) {p : Planned} → Sorted s t settings p → Planner.paper (p .answer) ≡ answer 0 0 0

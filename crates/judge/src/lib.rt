@@ -14,7 +14,7 @@ use notation::Answer;
 pub enum Judgement {
     // A run of it ends at this width.
     Ready { width: u8 },
-    // Refusal 10: the start width is not 1 or 3, or the count is above 32.
+    // Refusal 10: the start width is not 1 or 3, the count is above 32, or the end width is false.
     Malformed,
     // Refusal 5: the op at this position needs another width.
     Misfit { position: usize },

@@ -49,7 +49,7 @@ fails-below {w} {i} {os} f = omega (arith, ap length (f .split), length-append (
 
 module _ (p : Plan) where
   pub start-within : Lawful p → Within (p .start)
-  start-within l = ⊎-elim (λ e. record { some = omega arith; few = omega arith }) (λ e. record { some = omega arith; few = omega arith }) (l .0)
+  start-within l = ⊎-elim (λ e. record { some = omega arith; few = omega arith }) (λ e. record { some = omega arith; few = omega arith }) (l .0 .0)
 
   -- the widths that the ops of a lawful list lead to
   pub end-within : {v : ℕ} → Lawful p → Fits (p .start) (opsOf p) v → Within v

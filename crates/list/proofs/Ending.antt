@@ -1,4 +1,4 @@
--- The end width of a list: that which the check tells, and 0 exactly where the check refuses it; and that of a list that goes on.
+-- The width that ops lead to is that which the check tells, and 0 where the check refuses them; and that of a list that goes on.
 -- Op by op. An op that finds width 0 gives 0 or fails, so a list that has failed stays at 0.
 use Prim.Native.Nat.{ℕ, _+_}
 use mathlib.Core.Path.{_≡_, refl, ap, sym, _∙_}
@@ -14,12 +14,13 @@ use Rattle.op.specs.declared.Op.the-variants as O
 use Rattle.list.specs.Lists.{lawful, opsOf}
 use Rattle.list.specs.Answer.{paper}
 use Rattle.list.specs.Check.{checkFrom, checkOf}
-use Rattle.list.specs.Ends.{endFrom, endOf}
+use Rattle.list.specs.Ends.{endFrom}
 use Rattle.list.specs.declared.Plan.{Plan}
 use Rattle.list.specs.declared.Verdict.{Verdict}
-use Rattle.list.specs.declared.Verdict.the-variants.{Malformed, Misfit}
+use Rattle.list.specs.declared.Verdict.the-variants.{Misfit}
+use Rattle.list.proofs.Formed.{formed-exactly, lawful-exactly}
 
-told-from : (os : List Op) (w i : ℕ) → paper (checkFrom w i os) .width ≡ endFrom w os
+pub told-from : (os : List Op) (w i : ℕ) → paper (checkFrom w i os) .width ≡ endFrom w os
 told-from [] w i = refl
 told-from (o ∷ os) w i = by (fitsAt o w) (checkFrom (givesOf o w) (i + 1) os) (told-from os (givesOf o w) (i + 1))
   where
@@ -27,13 +28,15 @@ told-from (o ∷ os) w i = by (fitsAt o w) (checkFrom (givesOf o w) (i + 1) os) 
     by true v e = e
     by false v e = refl
 
--- the width that the check tells is the end width
-pub told : (p : Plan) → paper (checkOf p) .width ≡ endOf p
-told p = by (lawful p) (checkFrom (p .start) 0 (opsOf p)) (told-from (opsOf p) (p .start) 0)
+-- the width that the check tells is the end width of a list that 10 does not refuse, and 0 of another
+pub told : (p : Plan) → paper (checkOf p) .width ≡ (if lawful p then p .end else 0)
+told p = by (lawful p) refl
   where
-    by : (b : Bool) (v : Verdict) {n : ℕ} → paper v .width ≡ n → paper (if b then v else Malformed) .width ≡ (if b then n else 0)
-    by true v e = e
-    by false v e = refl
+    by : (b : Bool) → lawful p ≡ b → paper (checkOf p) .width ≡ (if lawful p then p .end else 0)
+    by true e =
+        let l = lawful-exactly p .0 e in
+        rw e (told-from (opsOf p) (p .start) 0 ∙ sym (l .1 ∙ rw (formed-exactly (p .start) (p .count) .1 (l .0))))
+    by false e = rw e
 
 -- ---- a list that has failed stays at 0
 

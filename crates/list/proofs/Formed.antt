@@ -1,12 +1,12 @@
--- The test `wellFormed` holds exactly for a start width of 1 or 3 and a count of at most 32, and so `lawful` of a list.
--- By the cases of its three comparisons.
+-- The test `wellFormed` holds exactly for a start width of 1 or 3 and a count of at most 32, and `lawful` where the end width is true besides.
+-- By the cases of their comparisons.
 use Prim.Native.Nat.{ℕ, _≤_}
 use mathlib.Core.Path.{_≡_, refl, sym, _∙_}
 use mathlib.Core.Bool.{Bool, true, false, _&&_, _||_, and-false, false≢true, true≢false}
 use mathlib.Core.Logic.{_↔_, inl, inr, ⊎-elim}
 use lib.Dec.{eqb, leb}
 use borrow.Author.Tests.{eq-eqb, ne-eqb, eqb-true, eqb-false, le-leb, lt-leb, leb-true, leb-false}
-use Rattle.list.specs.Lists.{wellFormed, Formed, Unformed, lawful, Lawful, Unlawful}
+use Rattle.list.specs.Lists.{opsOf, wellFormed, Formed, Unformed, endOf, isTrue, True, lawful, Lawful, Unlawful}
 use Rattle.list.specs.declared.Plan.{Plan}
 
 module _ (s n : ℕ) where
@@ -42,11 +42,35 @@ module _ (s n : ℕ) where
   not-both l u = true≢false (sym (formed-exactly .1 l) ∙ unformed-exactly .1 u)
 
 module _ (p : Plan) where
+  pub true-exactly : (isTrue p ≡ true) ↔ True p
+  unfolding isTrue
+  true-exactly = (eqb-true (p .end) (endOf (p .start) (p .count) (opsOf p)), eq-eqb (p .end) (endOf (p .start) (p .count) (opsOf p)))
+
+  pub false-exactly : (isTrue p ≡ false) ↔ (¬ True p)
+  unfolding isTrue
+  false-exactly = (eqb-false (p .end) (endOf (p .start) (p .count) (opsOf p)), ne-eqb (p .end) (endOf (p .start) (p .count) (opsOf p)))
+
   pub lawful-exactly : (lawful p ≡ true) ↔ Lawful p
-  lawful-exactly = formed-exactly (p .start) (p .count)
+  lawful-exactly = (
+    read (wellFormed (p .start) (p .count)) (isTrue p) refl refl,
+    λ l. rw (formed-exactly (p .start) (p .count) .1 (l .0), true-exactly .1 (l .1)),
+  )
+    where
+      read : (a b : Bool) → wellFormed (p .start) (p .count) ≡ a → isTrue p ≡ b → (a && b) ≡ true → Lawful p
+      read true true f t e = (formed-exactly (p .start) (p .count) .0 f, true-exactly .0 t)
+      read true false f t e = absurd (false≢true e)
+      read false b f t e = absurd (false≢true e)
 
   pub unlawful-exactly : (lawful p ≡ false) ↔ Unlawful p
-  unlawful-exactly = unformed-exactly (p .start) (p .count)
+  unlawful-exactly = (
+    read (wellFormed (p .start) (p .count)) (isTrue p) refl refl,
+    ⊎-elim (λ u. rw (unformed-exactly (p .start) (p .count) .1 u)) (λ n. rw (false-exactly .1 n) (and-false (wellFormed (p .start) (p .count)))),
+  )
+    where
+      read : (a b : Bool) → wellFormed (p .start) (p .count) ≡ a → isTrue p ≡ b → (a && b) ≡ false → Unlawful p
+      read true true f t e = absurd (true≢false e)
+      read true false f t e = inr (false-exactly .0 t)
+      read false b f t e = inl (unformed-exactly (p .start) (p .count) .0 f)
 
   pub never-both : Lawful p → ¬ Unlawful p
-  never-both = not-both (p .start) (p .count)
+  never-both l = ⊎-elim (not-both (p .start) (p .count) (l .0)) (λ n. n (l .1))

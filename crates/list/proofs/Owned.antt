@@ -14,5 +14,5 @@ use Rattle.list.proofs.Plan.Laws as LPlan
 
 pub thirty-two : (p : Plan) {vs : List Val} → Is (StructOf.row TPlan.the-type) p vs → length (p .ops) ≡ 32
 thirty-two p h =
-    let q = Struct.owed TPlan.the-type LPlan.the-laws p _ h .1 .1 .0 in
+    let q = Struct.owed TPlan.the-type LPlan.the-laws p _ h .1 .1 .1 .0 in
     sym (length-map (p .ops) (TSlot.the-field .into)) ∙ q .1 .0 .1

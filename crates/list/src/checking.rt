@@ -3,6 +3,7 @@ ghost use mathlib.Core.Path.{_≡_};
 ghost use mathlib.Core.List.{map};
 ghost use Prim.Native.Nat.{_≤_};
 ghost use lib.ListN.{take};
+ghost use Rattle.list.specs.Ends.{endFrom};
 ghost use Rattle.list.specs.Lists.{opOf};
 ghost use Rattle.list.specs.Check.{checkFrom, checkOf};
 ghost use Rattle.list.specs.Answer.{paper};
@@ -52,6 +53,15 @@ fn check_ops(slots: [Slot; 32], start: u8, count: usize) -> Verdict
         i += 1;
     }
     Verdict::Passes { width }
+}
+
+// The width that the ops lead to; 0 where one of them needs another.
+pub(crate) fn end_of(slots: [Slot; 32], start: u8, count: usize) -> u8
+    requires { ⌜ count ≤ 32 ⌝ }
+    ensures { λ r. ⌜ r ≡ endFrom start (map opOf (take count slots)) ⌝ }
+{
+    let answer = paper(check_ops(slots, start, count));
+    answer.width
 }
 
 // 10 first, then 5 at the first op that needs another width.

@@ -63,7 +63,7 @@ first-short start count =
 module _ (p : Plan) where
   all-short : Lawful p → length (lines p) ≤ 720
   all-short l =
-      omega (arith, length-append (firstLine (p .start) (p .count)) (opLines 0 (opsOf p)), first-short (p .start) (p .count), lines-short 0 (opsOf p), count-ops (p .count) (p .ops), l .1)
+      omega (arith, length-append (firstLine (p .start) (p .count)) (opLines 0 (opsOf p)), first-short (p .start) (p .count), lines-short 0 (opsOf p), count-ops (p .count) (p .ops), l .0 .1)
 
   list-short : (v : Verdict) → checkOf p ≡ v → length (listText p v) ≤ 736
   list-short (Passes w) e = omega (arith, length-append (lines p) (ending (ascii "end ") w), all-short (passes-lawful p e), ending-short (ascii "end ") w)

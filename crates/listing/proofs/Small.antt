@@ -20,7 +20,7 @@ module _ (p : Plan) where
   width-small e = let h = width-within p e .few in omega arith
 
   pub position-small : {i : ℕ} → checkOf p ≡ Misfit i → i < 100
-  position-small e = let h = misfit-lawful p e .1 in omega (arith, position-below p e)
+  position-small e = let h = misfit-lawful p e .0 .1 in omega (arith, position-below p e)
 
 pub number-small : (a : Reading) → paper a .number < 100
 number-small Done = omega arith

@@ -8,10 +8,11 @@ use native.Mathlib.Omega.{arith}
 use lib.ListN.{length, take, length-map, length-take}
 use Rattle.ciexyz.specs.Matrix.{product}
 use Rattle.ciexyz.specs.declared.Mat3.{Mat3}
-use Rattle.list.specs.Lists.{opOf, opsOf, Formed, Lawful}
+use Rattle.list.specs.Lists.{opOf, opsOf, planOf, Formed, Lawful}
 use Rattle.op.specs.declared.Op.{Op}
 use Rattle.op.specs.declared.Op.the-variants as O
 use Rattle.list.specs.declared.Plan.{Plan}
+use Rattle.list.proofs.Building.{plan-true}
 use Rattle.merge.specs.Groups.{Group, run, other, matrixOf, joinedTo, placed, grouped}
 use Rattle.merge.specs.Merge.{oneOp, mergeOps}
 
@@ -60,12 +61,15 @@ no-longer os = rw (length-map (grouped os) oneOp) (groups os)
     groups [] = omega arith
     groups (o ∷ os) = omega (arith, one-more (matrixOf o) o (grouped os), groups os)
 
--- the merged list of a list that is well formed is well formed
+-- the merged list of a lawful list is lawful
 pub short : (p : Plan) → length (mergeOps (opsOf p)) ≤ p .count
 short p = omega (arith, no-longer (opsOf p), length-map (take (p .count) (p .ops)) opOf, length-take (p .count) (p .ops))
 
-pub still-lawful : (p : Plan) → Lawful p → Formed (p .start) (length (mergeOps (opsOf p)))
-still-lawful p l = (l .0, omega (arith, short p, l .1))
+pub still-formed : (p : Plan) → Lawful p → Formed (p .start) (length (mergeOps (opsOf p)))
+still-formed p l = (l .0 .0, omega (arith, short p, l .0 .1))
+
+pub still-lawful : (p : Plan) → Lawful p → Lawful (planOf (p .start) (mergeOps (opsOf p)))
+still-lawful p l = (still-formed p l, plan-true (p .start) (mergeOps (opsOf p)))
 
 -- matrices before ops that no run begins: one run, and the groups of these ops
 pub run-first : (m : Mat3) (ms : List Mat3) (os : List Op) → ((n : Mat3) → joinedTo n (grouped os) ≡ run n [] ∷ grouped os) → grouped (map O.Matrix (m ∷ ms) ++ os) ≡ run m ms ∷ grouped os

@@ -1,11 +1,13 @@
--- Merging keeps the verdict and the end width. "The verdict is pass or not; the position in a 5 may move." (01, Planning)
+-- Merging keeps the verdict and the end width, as the check tells it and as the list holds it. "The verdict is pass or not; the position in a 5 may move." (01, Planning)
 -- The rows of the table lead through both lists to one width, or through neither (Fitting).
 use Prim.Native.Nat.{ℕ}
-use mathlib.Core.Path.{_≡_}
+use mathlib.Core.Path.{_≡_, refl, ap, sym, _∙_}
+use mathlib.Core.Bool.{Bool, true, false}
 use native.Mathlib.Omega.{arith}
-use Rattle.list.specs.Lists.{opsOf, planOf, Lawful}
+use Rattle.list.specs.Lists.{opsOf, planOf, True, lawful, Lawful}
 use Rattle.list.specs.declared.Plan.{Plan}
-use Rattle.list.proofs.Building.{ops-of}
+use Rattle.list.proofs.Building.{ops-of, plan-true}
+use Rattle.list.proofs.Ending.{told}
 use Rattle.list.proofs.Formed.{lawful-exactly, unlawful-exactly, never-both}
 use Rattle.notation.specs.Answers.{answer, Alike}
 use Rattle.notation.specs.declared.Answer.{Answer}
@@ -45,3 +47,21 @@ merge-keeps p = by (judged p)
     by (malformed u) = alike {i = 0} (rw (unlawful-exactly p .1 u)) (is-malformed p u)
     by (passing l f) = alike (of-q l (is-passing q (still-lawful p l) (fitting f))) (is-passing p l f)
     by (failing l f) = failed l f (judged q)
+
+-- a merged list holds the end width that the list held, and a true one
+pub end-kept : (p : Plan) → Lawful p → mergeOf p .plan .end ≡ p .end
+end-kept p l =
+    let q = planOf (p .start) (mergeOps (opsOf p)) in
+    let e = lawful-exactly p .1 l in
+    let f = lawful-exactly q .1 (still-lawful p l) in
+    let merged : mergeOf p .plan ≡ q = rw e in
+    let told-q : paper (checkOf q) .width ≡ q .end = told q ∙ rw f in
+    let told-p : paper (checkOf p) .width ≡ p .end = told p ∙ rw e in
+    ap (λ (m : Plan). m .end) merged ∙ sym told-q ∙ sym (ap (λ (m : Plan). paper (checkOf m) .width) merged) ∙ merge-keeps p .1 ∙ told-p
+
+pub merged-true : (p : Plan) → True (mergeOf p .plan)
+merged-true p = by (lawful p) refl
+  where
+    by : (b : Bool) → lawful p ≡ b → True (mergeOf p .plan)
+    by true e = rw e (plan-true (p .start) (mergeOps (opsOf p)))
+    by false e = rw e

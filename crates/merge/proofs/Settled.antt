@@ -7,12 +7,12 @@ use mathlib.Core.List.{List, [], _∷_, _++_, append-nil}
 use native.Mathlib.Omega.{arith}
 use lib.ListN.{length}
 use Rattle.ciexyz.specs.declared.Mat3.{Mat3}
-use Rattle.list.specs.Lists.{opsOf, wellFormed, lawful}
+use Rattle.list.specs.Lists.{opsOf, planOf, lawful}
 use Rattle.op.specs.declared.Op.{Op}
 use Rattle.op.specs.declared.Op.the-variants as O
 use Rattle.list.specs.declared.Plan.{Plan}
 use Rattle.list.proofs.Building.{ops-of}
-use Rattle.list.proofs.Formed.{formed-exactly, lawful-exactly}
+use Rattle.list.proofs.Formed.{lawful-exactly}
 use Rattle.merge.specs.Merge.{mergeOps, mergeOf}
 use Rattle.merge.proofs.Grouping.{nothing-lost, runs-longest}
 use Rattle.merge.proofs.Front.{short, still-lawful}
@@ -42,9 +42,15 @@ merged-count p = by (lawful p) refl
 pub merged-again : (p : Plan) → mergeOf (mergeOf p .plan) ≡ mergeOf p
 merged-again p = by (lawful p) refl
   where
-    again : lawful p ≡ true → wellFormed (p .start) (length (mergeOps (opsOf p))) ≡ true
-    again e = formed-exactly (p .start) (length (mergeOps (opsOf p))) .1 (still-lawful p (lawful-exactly p .0 e))
+    q : Plan
+    q = planOf (p .start) (mergeOps (opsOf p))
+
+    again : lawful p ≡ true → lawful q ≡ true
+    again e = lawful-exactly q .1 (still-lawful p (lawful-exactly p .0 e))
+
+    of-q : lawful p ≡ true → mergeOf q ≡ mergeOf p
+    of-q e = rw (again e, e, ops-of (p .start) (mergeOps (opsOf p)), ops-again (opsOf p))
 
     by : (b : Bool) → lawful p ≡ b → mergeOf (mergeOf p .plan) ≡ mergeOf p
-    by true e = rw (e, again e, ops-of (p .start) (mergeOps (opsOf p)), ops-again (opsOf p))
+    by true e = let merged : mergeOf p .plan ≡ q = rw e in ap mergeOf merged ∙ of-q e
     by false e = rw e

@@ -14,7 +14,7 @@ use op::Op;
 // What merging answers.
 pub enum Merging {
     Done,
-    // Refusal 10: the start width is not 1 or 3, or the count is above 32.
+    // Refusal 10: the start width is not 1 or 3, the count is above 32, or the end width is false.
     Malformed,
 }
 

@@ -2,7 +2,7 @@
 use libc::STDIN_FILENO;
 use libc::STDOUT_FILENO;
 
-// Reads up to 4,096 bytes: no block is longer than 1,191, and what follows one changes nothing that is printed.
+// Reads up to 4,096 bytes: no block is longer than 1,192, and what follows one changes nothing that is printed.
 fn main() {
     let mut input = io::buffer();
     let n = io::read_full(STDIN_FILENO, &mut input);

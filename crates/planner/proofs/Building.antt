@@ -1,6 +1,6 @@
 -- The list that the stages build, and the merged one.
 -- They append at most 10 ops to an empty list, so there is room, and the start width is 1 or 3.
-use Prim.Native.Nat.{ℕ}
+use Prim.Native.Nat.{ℕ, _≤_}
 use mathlib.Core.Path.{_≡_, refl, _∙_}
 use mathlib.Core.Bool.{Bool, true, false}
 use mathlib.Core.List.{List, [], _++_}
@@ -8,11 +8,11 @@ use mathlib.Core.Logic.{_⊎_, inl, inr}
 use native.Mathlib.Omega.{arith}
 use lib.ListN.{length}
 use Rattle.notation.specs.Choice.{if_then_else_}
-use Rattle.list.specs.Lists.{planOf, appended, Formed}
+use Rattle.list.specs.Lists.{planOf, appended, Lawful}
 use Rattle.op.specs.declared.Op.{Op}
 use Rattle.list.specs.declared.Plan.{Plan}
-use Rattle.list.proofs.Building.{appended-append, appends, ops-of}
-use Rattle.list.proofs.Formed.{formed-exactly}
+use Rattle.list.proofs.Building.{appended-append, appends, ops-of, plan-true}
+use Rattle.list.proofs.Formed.{lawful-exactly}
 use Rattle.merge.specs.Merge.{mergeOps, mergeOf}
 use Rattle.encoding.specs.Encodings.{channelsOf}
 use Rattle.encoding.specs.Named.{sameSpace}
@@ -50,8 +50,11 @@ module _ (source target : EnumColourEncoding) (settings : Settings) where
       five (planOf (channelsOf source) []) (decodeOps source settings) (convertOps (decoded source) target) (toneMapOps reached target settings) (pqToHlgOps reached target settings) (curveOps reached target settings)
       ∙ appends (channelsOf source) [] (stageOps source target settings) (one-or-three source, omega (arith, at-most-ten source target settings))
 
-  lawful : Formed (channelsOf source) (length (stageOps source target settings))
-  lawful = (one-or-three source, omega (arith, at-most-ten source target settings))
+  planned : Lawful (planOf (channelsOf source) (stageOps source target settings))
+  planned =
+      let few : length (stageOps source target settings) ≤ 32 = omega (arith, at-most-ten source target settings) in
+      ((one-or-three source, few), plan-true (channelsOf source) (stageOps source target settings))
 
   pub merged : mergeOf (planOf (channelsOf source) (stageOps source target settings)) .plan ≡ planOf (channelsOf source) (mergeOps (stageOps source target settings))
-  merged = rw (formed-exactly (channelsOf source) (length (stageOps source target settings)) .1 lawful, ops-of (channelsOf source) (stageOps source target settings))
+  merged =
+      rw (lawful-exactly (planOf (channelsOf source) (stageOps source target settings)) .1 planned, ops-of (channelsOf source) (stageOps source target settings))

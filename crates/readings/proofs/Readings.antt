@@ -9,6 +9,7 @@ use Rattle.fused.specs.Fused.{fused}
 use Rattle.cbrt.specs.Root.{cbrtOf, isRoot}
 use Rattle.cbrt.proofs.Found.{cbrt-is}
 use Rattle.ciexyz.specs.Matrix.{product}
+use Rattle.list.specs.Lists.{isTrue}
 use Rattle.channels.specs.Channels.{vec}
 use Rattle.xyb.specs.Xyb.{mixed, mixedBy, rootsOf}
 use Rattle.steps.specs.Samples.{xyzOfLuma}
@@ -35,7 +36,7 @@ unfolding rootsOf
 xyb-is root bias intensity e = sym (ap (λ (r : Float). xybBy r (bits bias) (bits 0x437f_0000 /f bits intensity)) e)
 
 pub readings : Hold rows
-unfolding rows product mixed mixedBy fused badField firstFloat opRead xyzOfLuma sum ofBits toBits mul sub div add lt isNan
+unfolding rows isTrue product mixed mixedBy fused badField firstFloat opRead xyzOfLuma sum ofBits toBits mul sub div add lt isNan
 readings = (
   refl,
   (

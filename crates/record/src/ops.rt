@@ -89,24 +89,28 @@ fn nothing() -> Found {
     }
 }
 
-// The list at word k, the number of its ops and each op, with the start width at word `start`.
+// The list at word k, the number of its ops, its end width and each op, with the start width at word `start`.
 pub fn list_at(line: &[u8], start: usize, k: usize) -> Found {
     let width = word(line, start);
     let count = word(line, k);
     if line.len() / 9 < k {
         return nothing();
     }
+    let end = word(line, k + 1);
     if width > 255 {
+        return nothing();
+    }
+    if end > 255 {
         return nothing();
     }
     if count > 32 {
         return nothing();
     }
-    ops_at(line, k + 1, width as u8, count)
+    ops_at(line, k + 2, width as u8, end as u8, count)
 }
 
-// The list of the next `count` ops, from word k on. Its start width is what is recorded, lawful or not.
-fn ops_at(line: &[u8], k: usize, start: u8, count: u32) -> Found
+// The list of the next `count` ops, from word k on. Its widths are what is recorded, lawful and true or not.
+fn ops_at(line: &[u8], k: usize, start: u8, end: u8, count: u32) -> Found
     requires { ⌜ (k + 640 < 2 ^ 64) × (count ≤ 32) ⌝ }
 {
     let mut list = list::empty(1);
@@ -123,5 +127,6 @@ fn ops_at(line: &[u8], k: usize, start: u8, count: u32) -> Found
         i += 1;
     }
     list.start = start;
+    list.end = end;
     Found { list, next: at }
 }

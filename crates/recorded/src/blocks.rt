@@ -1,4 +1,4 @@
-// Plan blocks: n, the n bytes, four to a word; number, bytes of rest, start width and list.
+// Plan blocks: n, the n bytes, four to a word; number, bytes of rest, version, start width and list.
 use list::Plan;
 use record::from_word;
 
@@ -25,7 +25,7 @@ pub(crate) fn read_bytes(words: &[u8], bytes: &mut [u8]) {
 }
 
 // Whether both begin with the same n bytes.
-fn begin_alike(a: &[u8], b: &[u8], n: usize) -> bool {
+pub(crate) fn begin_alike(a: &[u8], b: &[u8], n: usize) -> bool {
     if a.len() < n {
         return false;
     }
@@ -54,16 +54,17 @@ fn follows(rest: &[u8], bytes: &[u8], used: usize) -> bool {
     same_bytes(rest, &bytes[used..])
 }
 
-// Whether the list that was read, written again, gives the first `used` bytes; of a refused block none are used.
-fn rewrites(plan: Plan, bytes: &[u8], used: usize) -> bool {
+// Whether the list that was read, written again at the block's own version, gives the first `used` bytes; of a refused block none are used.
+fn rewrites(plan: Plan, version: u16, bytes: &[u8], used: usize) -> bool {
     let mut room = [0xa5u8; ROOM];
-    let written = writer::write(plan, &mut room);
+    let written = writer::write(plan, version, &mut room);
     writer::length(written) == used && begin_alike(&room, bytes, used)
 }
 
-// Reads the block and compares what is found with the answer: number, bytes of rest, start width and list. Then the list is written again.
+// Reads the block and compares what is found with the answer: number, bytes of rest, version, start width and list. Then the list is
+// written again.
 fn reads(bytes: &[u8], answer: &[u8]) -> bool {
-    let found = record::list_at(answer, 2, 3);
+    let found = record::list_at(answer, 3, 4);
     if found.next != record::words(answer) {
         return false;
     }
@@ -74,9 +75,10 @@ fn reads(bytes: &[u8], answer: &[u8]) -> bool {
     let rest = block::rest(bytes);
     block::paper(reached).number as u32 == record::word(answer, 0)
         && rest.len() == record::word(answer, 1) as usize
+        && read.version as u32 == record::word(answer, 2)
         && same::same_list(plan, list)
         && follows(rest, bytes, read.used)
-        && rewrites(plan, bytes, read.used)
+        && rewrites(plan, read.version, bytes, read.used)
 }
 
 pub(crate) fn same_block(words: &[u8]) -> bool {

@@ -4,6 +4,7 @@ mod byte_channels;
 mod codes;
 mod conversions;
 mod cuts; // cuts.rt: runs by strips
+mod handed; // handed.rt: lists as a caller hands them over
 mod lists;
 mod matrices;
 mod plans;
@@ -59,6 +60,8 @@ const CODE: u32 = 22;
 
 const LEVELS: u32 = 23;
 
+const HANDED: u32 = 24;
+
 fn same_matrix(kind: u32, words: &[u8]) -> bool {
     match kind {
         MATMUL3 => matrices::same_matmul3(words),
@@ -92,10 +95,11 @@ pub fn same(line: &[u8]) -> bool {
         STRIPS => lists::same_run(words, true),
         BLOCK => blocks::same_block(words),
         SCREEN => screens::same_screen(words),
-        WRITING => writing::same_written(words),
+        WRITING => handed::same_handed(words, true),
         BYTES => byte_channels::same_rgb(words),
         CODE => codes::same_code(words),
         LEVELS => codes::same_levels(words),
+        HANDED => handed::same_handed(words, false),
         _ => same_matrix(kind, words),
     }
 }

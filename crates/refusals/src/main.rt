@@ -119,6 +119,18 @@ fn runs() {
     );
 }
 
+// 10: the list ends with one channel, and says three.
+fn handed() {
+    let mut three: [f32; 3] = [0.5, 0.5, 0.5];
+    let mut stale = list::push(list::empty(3), Op::XyzToLuma);
+    stale.end = 3;
+    show_run(
+        b"a run of XyzToLuma in a list that says it ends with three channels",
+        stale,
+        &mut three,
+    );
+}
+
 fn show_block(given: &[u8], bytes: &[u8]) {
     let read = block::read(bytes);
     let reached = read.answer;
@@ -131,10 +143,21 @@ fn blocks() {
         b"a block whose last op is cut off",
         &[0x43, 0x54, 0x50, 1, 0, 1, 2, 9],
     );
-    show_block(b"a block of version 2", &[0x43, 0x54, 0x50, 2, 0, 1, 1, 9]);
+    show_block(
+        b"a block of version 2 without its end width",
+        &[0x43, 0x54, 0x50, 2, 0, 1, 0],
+    );
+    show_block(
+        b"a block of version 3",
+        &[0x43, 0x54, 0x50, 3, 0, 1, 1, 1, 9],
+    );
     show_block(
         b"a block with an op of kind 10",
         &[0x43, 0x54, 0x50, 1, 0, 1, 1, 10],
+    );
+    show_block(
+        b"a block of version 2 with Clip at width 1 and the end width 3",
+        &[0x43, 0x54, 0x50, 2, 0, 1, 1, 3, 9],
     );
     show_block(
         b"a block of start width 2",
@@ -152,13 +175,21 @@ fn strips() {
     show(b"a strip without an open run", strips::paper(stripped));
 }
 
-// 12.
-fn writings() {
+fn show_writing(given: &[u8], version: u16) {
     let mut seven = [0u8; 7];
     let clip = list::push(list::empty(1), Op::Clip);
     show(
-        b"a list of one op, whose block has eight bytes, written into seven",
-        writer::paper(writer::write(clip, &mut seven)),
+        given,
+        writer::paper(writer::write(clip, version, &mut seven)),
+    );
+}
+
+// 8 and 12.
+fn writings() {
+    show_writing(b"a list written in version 3", 3);
+    show_writing(
+        b"a list of one op, whose block of version 1 has eight bytes, written into seven",
+        1,
     );
 }
 
@@ -185,6 +216,7 @@ fn codes() {
 fn main() {
     plans();
     runs();
+    handed();
     blocks();
     strips();
     writings();

@@ -124,5 +124,5 @@ slots-held (suc n) (s ∷ ss) (u ∷ us) p = (op-held (s .op) (Struct.owed TSlot
 
 pub typed : (p : Plan) {vs : List Val} → Is (StructOf.row TPlan.the-type) p vs → Typed p
 typed p h =
-    let q = Struct.owed TPlan.the-type LPlan.the-laws p _ h .1 .1 .0 in
+    let q = Struct.owed TPlan.the-type LPlan.the-laws p _ h .1 .1 .1 .0 in
     record { slots = thirty-two p h; values = slots-held (p .count) (p .ops) (q .0) (q .1 .1) }

@@ -14,7 +14,7 @@ pub use outcomes::paper;
 pub enum Outcome {
     // It reached the end, at this width.
     Done { width: u8 },
-    // Refusal 10: the start width is not 1 or 3, or the count is above 32.
+    // Refusal 10: the start width is not 1 or 3, the count is above 32, or the end width is false.
     Malformed,
     // Refusal 4: the lent lengths are unequal.
     Unequal,

@@ -1,5 +1,5 @@
--- When two lists are the same: start width, count and the ops below the count agree; slots past the count are "not compared
--- when lists are called the same" (01, Refusal numbers). Ops agree where their kind and their values do.
+-- When two lists are the same: start width, count, end width and the ops below the count agree; slots past the count are "not compared
+-- when lists are called the same" (01, Refusal numbers). An end width that is true follows from the rest, and a false one is not hidden. Ops agree where their kind and their values do.
 use mathlib.Core.Bool.{Bool, true, false, _&&_, Bool·beq}
 use mathlib.Core.List.{List, [], _∷_}
 use lib.Dec.{eqb}
@@ -62,4 +62,4 @@ abbrev pub sameOp : Op → Op → Bool
 sameOp a b = eqb (kindOf a) (kindOf b) && sameAll sameValue (valuesOf a) (valuesOf b)
 
 abbrev pub sameList : Plan → Plan → Bool
-sameList a b = eqb (a .start) (b .start) && eqb (a .count) (b .count) && sameAll sameOp (opsOf a) (opsOf b)
+sameList a b = eqb (a .start) (b .start) && eqb (a .count) (b .count) && eqb (a .end) (b .end) && sameAll sameOp (opsOf a) (opsOf b)

@@ -1,4 +1,4 @@
-// Whether two lists are the same: start width, count and ops, value by value, floats by their bits with all NaNs as one.
+// Whether two lists are the same: start width, count, end width and ops, value by value, floats by their bits with all NaNs as one.
 ghost use mathlib.Core.Path.{_≡_};
 ghost use mathlib.Core.List.{map};
 ghost use lib.ListN.{take};
@@ -112,6 +112,9 @@ pub fn same_list(a: Plan, b: Plan) -> bool
     }
     let count = a.count;
     if count != b.count {
+        return false;
+    }
+    if a.end != b.end {
         return false;
     }
     let s = a.ops;

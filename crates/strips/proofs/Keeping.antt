@@ -1,7 +1,7 @@
 -- The list that an accepted opening keeps can be run, ends at the same width, and runs as the one that was given.
 -- It has the same start width and the same ops.
 use Prim.Native.Nat.{ℕ}
-use mathlib.Core.Path.{_≡_, ap, sym, subst, _∙_}
+use mathlib.Core.Path.{_≡_, refl, ap, sym, subst, _∙_}
 use mathlib.Core.List.{List, []}
 use native.Mathlib.Omega.{arith}
 use Rattle.channels.specs.Channels.{Channels, EquallyLong}
@@ -32,8 +32,8 @@ module _ (p : Plan) (w : ℕ) (g : Words p (Ready w)) where
 
   kept-words : Words (planOf (p .start) (opsOf p)) (Ready w)
   kept-words =
-      let n = g .0 .1 in
-      rw (ops-of (p .start) (opsOf p)) ((g .0 .0, omega (arith, few p (lawful-exactly p .1 (g .0)))), g .1, g .2)
+      let n = g .0 .0 .1 in
+      rw (ops-of (p .start) (opsOf p)) (((g .0 .0 .0, omega (arith, few p (lawful-exactly p .1 (g .0)))), refl), g .1, g .2)
 
   pub kept-ready : judgeOf (appended p []) ≡ Ready w
   kept-ready = rw (← is) (is-given (planOf (p .start) (opsOf p)) (Ready w) kept-words)

@@ -60,6 +60,14 @@ fn print_plan(title: &[u8], plan: Plan) {
     io::write_all(STDOUT_FILENO, &text[..size]);
 }
 
+// The list line by line, and the end width that it carries.
+fn show_plan(title: &[u8], plan: Plan) {
+    print_plan(title, plan);
+    io::write_all(STDOUT_FILENO, b"end width carried: ");
+    io::print_decimal(STDOUT_FILENO, plan.end as u64);
+    io::write_all(STDOUT_FILENO, b"\n");
+}
+
 fn print_bytes(red: u8, green: u8, blue: u8) {
     io::print_decimal(STDOUT_FILENO, red as u64);
     io::write_all(STDOUT_FILENO, b" ");
@@ -135,7 +143,7 @@ fn picture() {
         return;
     }
     let plan = planned.plan;
-    print_plan(b"Xyb to Rgb, intensity 255\n", plan);
+    show_plan(b"Xyb to Rgb, intensity 255\n", plan);
     at_once(plan);
     by_strips(plan);
 }
@@ -162,7 +170,7 @@ fn custom_white() {
     let target = side(ColourSpace::Rgb, white, Curve::Linear);
     let planned = planner::plan(source, target, settings(255.0, false));
     let plan = planned.plan;
-    print_plan(b"\nRgb to Rgb with Custom white\n", plan);
+    show_plan(b"\nRgb to Rgb with Custom white\n", plan);
     if is_identity(ciexyz::adapt_mat(WhitePoint::D65, white)) {
         io::write_all(STDOUT_FILENO, b"the adaptation is the identity\n");
     }
@@ -173,7 +181,7 @@ fn to_srgb(title: &[u8], intensity: f32) {
     let target = side(ColourSpace::Rgb, WhitePoint::D65, Curve::Srgb);
     let planned = planner::plan(source, target, settings(intensity, false));
     let plan = planned.plan;
-    print_plan(title, plan);
+    show_plan(title, plan);
 }
 
 fn pq_to_hlg(title: &[u8], intensity: f32) {
@@ -181,22 +189,22 @@ fn pq_to_hlg(title: &[u8], intensity: f32) {
     let target = side(ColourSpace::Rgb, WhitePoint::D65, Curve::Hlg);
     let planned = planner::plan(source, target, settings(intensity, true));
     let plan = planned.plan;
-    print_plan(title, plan);
+    show_plan(title, plan);
 }
 
-// The plan of the picture as the office sends it: written as a plan block, and read from there.
-fn office() {
+// The plan of the picture as the office sends it: written as a plan block of a version, and read from there.
+fn office(title: &[u8], version: u16) {
     let source = side(ColourSpace::Xyb, WhitePoint::D65, Curve::Linear);
     let target = side(ColourSpace::Rgb, WhitePoint::D65, Curve::Linear);
     let planned = planner::plan(source, target, settings(255.0, false));
     let plan = planned.plan;
     let mut bytes = [0u8; 64];
-    let written = writer::write(plan, &mut bytes);
-    io::write_all(STDOUT_FILENO, b"\nXyb to Rgb, written by the office: ");
+    let written = writer::write(plan, version, &mut bytes);
+    io::write_all(STDOUT_FILENO, title);
     io::print_decimal(STDOUT_FILENO, writer::length(written) as u64);
     let read = block::read(&bytes);
     let sent = read.plan;
-    print_plan(b" bytes; read by the portal\n", sent);
+    show_plan(b" bytes; read by the portal\n", sent);
 }
 
 fn main() {
@@ -208,5 +216,6 @@ fn main() {
     pq_to_hlg(b"\nPq to Hlg, 999\n", 999.0);
     pq_to_hlg(b"\nPq to Hlg, 1001\n", 1001.0);
     pq_to_hlg(b"\nPq to Hlg, the next above 1001\n", 1001.00006);
-    office();
+    office(b"\nXyb to Rgb, written by the office in version 1: ", 1);
+    office(b"\nXyb to Rgb, written by the office in version 2: ", 2);
 }

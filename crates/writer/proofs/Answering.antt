@@ -13,19 +13,20 @@ use Rattle.list.proofs.Formed.{lawful-exactly}
 use Rattle.buffer.specs.Buffer.{placed, behind, Room, Put}
 use Rattle.buffer.proofs.Putting.{putting, listed}
 use Rattle.buffer.proofs.Within.{is-the-text}
+use Rattle.block.specs.Block.{knownVersion}
 use Rattle.writer.specs.Bytes.{blockOf}
 use Rattle.writer.specs.Writing.{badList, writingOf, leftBy, leftOf}
 use Rattle.writer.specs.declared.Writing.{Writing}
-use Rattle.writer.specs.declared.Writing.the-variants.{Done, Malformed, BadField, NoRoom}
+use Rattle.writer.specs.declared.Writing.the-variants.{Done, Malformed, WrongVersion, BadField, NoRoom}
 use Rattle.writer.proofs.Lengths.{at-most}
 
-module _ (p : Plan) (old : List ℕ) where
+module _ (p : Plan) (v : ℕ) (old : List ℕ) where
   -- the answer, and with it what is left
   abbrev pub Answers : Writing → List ℕ → Type 0
-  Answers writing new = (writing ≡ writingOf p (length old)) × (new ≡ leftOf p old)
+  Answers writing new = (writing ≡ writingOf p v (length old)) × (new ≡ leftOf p v old)
 
-  left : {writing : Writing} {new : List ℕ} → writing ≡ writingOf p (length old) → new ≡ leftBy writing (blockOf p) old → Answers writing new
-  left e f = (e, f ∙ ap (λ (a : Writing). leftBy a (blockOf p) old) e)
+  left : {writing : Writing} {new : List ℕ} → writing ≡ writingOf p v (length old) → new ≡ leftBy writing (blockOf v p) old → Answers writing new
+  left e f = (e, f ∙ ap (λ (a : Writing). leftBy a (blockOf v p) old) e)
 
   module _ {w : Bool} (e : w ≡ lawful p) where
     pub malformed : not w ≡ true → Answers Malformed old
@@ -39,26 +40,35 @@ module _ (p : Plan) (old : List ℕ) where
       pub formed : Lawful p
       formed = lawful-exactly p .0 is-lawful
 
-      module _ {a : Bool} (f : a ≡ badList p) where
-        pub bad : a ≡ true → Answers BadField old
+      module _ {k : Bool} (g : k ≡ knownVersion v) where
+        pub unknown : not k ≡ true → Answers WrongVersion old
         unfolding writingOf
-        bad s = left (rw (is-lawful, ← f, s)) refl
+        unknown t = left (rw (is-lawful, ← g, not-true k t)) refl
 
-        module _ (s : a ≡ false) where
-          pub asks : {room : List ℕ} → length room ≡ 1191 → Room room 0 (blockOf p) × ((p .count ≤ 32) × (badList p ≡ false))
-          asks l = (record { enough = omega (arith, at-most p formed) }, (formed .1, sym f ∙ s))
+        module _ (t : not k ≡ false) where
+          is-known : knownVersion v ≡ true
+          is-known = sym g ∙ not-false k t
 
-          module _ {room laid : List ℕ} {n : ℕ} (q : Put room 0 (blockOf p) laid n) where
-            pub short : length old < n → Answers NoRoom old
+          module _ {a : Bool} (f : a ≡ badList p) where
+            pub bad : a ≡ true → Answers BadField old
             unfolding writingOf
-            short h =
-                let k : length old < length (blockOf p) = omega (arith, listed q .size) in
-                left (rw (is-lawful, ← f, s, lt-ltb (length old) (length (blockOf p)) k)) refl
+            bad s = left (rw (is-lawful, is-known, ← f, s)) refl
 
-            pub done : n ≤ length old → {r : ℕ} {new : List ℕ} → r ≡ behind old 0 (take n laid) → new ≡ placed old 0 (take n laid) → Answers (Done n) new
-            unfolding writingOf
-            done h {r} {new} x y =
-                let k : length (blockOf p) ≤ length old = omega (arith, listed q .size) in
-                let b : take n laid ≡ blockOf p = is-the-text (listed q) in
-                let put : Put old 0 (blockOf p) new r = putting old 0 (blockOf p) (record { enough = omega arith }) (rw b at x) (rw b at y) in
-                left (rw (is-lawful, ← f, s, le-ltb (length old) (length (blockOf p)) k, listed q .size)) (rw (listed q .size) (listed put .contents))
+            module _ (s : a ≡ false) where
+              pub asks : {room : List ℕ} → length room ≡ 1192 → Room room 0 (blockOf v p) × ((p .count ≤ 32) × (badList p ≡ false))
+              asks l = (record { enough = omega (arith, at-most p v formed) }, (formed .0 .1, sym f ∙ s))
+
+              module _ {room laid : List ℕ} {n : ℕ} (q : Put room 0 (blockOf v p) laid n) where
+                pub short : length old < n → Answers NoRoom old
+                unfolding writingOf
+                short h =
+                    let l : length old < length (blockOf v p) = omega (arith, listed q .size) in
+                    left (rw (is-lawful, is-known, ← f, s, lt-ltb (length old) (length (blockOf v p)) l)) refl
+
+                pub done : n ≤ length old → {r : ℕ} {new : List ℕ} → r ≡ behind old 0 (take n laid) → new ≡ placed old 0 (take n laid) → Answers (Done n) new
+                unfolding writingOf
+                done h {r} {new} x y =
+                    let l : length (blockOf v p) ≤ length old = omega (arith, listed q .size) in
+                    let b : take n laid ≡ blockOf v p = is-the-text (listed q) in
+                    let put : Put old 0 (blockOf v p) new r = putting old 0 (blockOf v p) (record { enough = omega arith }) (rw b at x) (rw b at y) in
+                    left (rw (is-lawful, is-known, ← f, s, le-ltb (length old) (length (blockOf v p)) l, listed q .size)) (rw (listed q .size) (listed put .contents))

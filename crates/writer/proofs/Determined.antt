@@ -19,5 +19,5 @@ length-determines κs a x y s t p q = p ∙ sym q
 pub write-determines : Determines 1 write-kinds.ps write-kinds.r write.Post (λ κs r s. r)
 write-determines κs a x y s t p q = p .0 ∙ sym (q .0)
 
-pub write-buffer-determines : Determines 1 write-kinds.ps write-kinds.r write.Post (λ κs r s. now (s .1 .0))
+pub write-buffer-determines : Determines 1 write-kinds.ps write-kinds.r write.Post (λ κs r s. now (s .1 .1 .0))
 write-buffer-determines κs a x y s t p q = p .1 ∙ sym (q .1)

@@ -1,102 +1,122 @@
--- Each answer is given exactly when W3 says, in the order 10, 9, 12; and what the buffer holds then.
+-- Each answer is given exactly when W3 and W8 say, in the order 10, 8, 9, 12; and what the buffer holds then.
 -- One answer is given, the first in the order whose cause holds (Sorting); what is left goes by the answer.
 use Prim.Native.Nat.{ℕ, _≤_, _<_}
 use mathlib.Core.Path.{_≡_, refl, ap, subst, _∙_}
 use mathlib.Core.Logic.{_↔_}
-use mathlib.Core.List.{List}
+use mathlib.Core.List.{List, [], _∷_}
 use native.Mathlib.Omega.{arith}
 use lib.ListN.{length, take, drop}
 use lib.Seq.{take-at, drop-at}
 use Rattle.notation.specs.Answers.{answer}
-use Rattle.notation.specs.Order.{none, this, later}
+use Rattle.notation.specs.Order.{FirstOf, none, this, later}
 use Rattle.notation.proofs.Order.{one-given, caused, passed}
 use Rattle.list.specs.Lists.{Lawful, Unlawful}
 use Rattle.list.specs.declared.Plan.{Plan}
 use Rattle.list.proofs.Formed.{never-both}
+use Rattle.block.specs.Refusals.{Known}
 use Rattle.writer.specs.Bytes.{blockOf}
 use Rattle.writer.specs.Writing.{paper, lengthOf, writingOf, leftBy, leftOf}
-use Rattle.writer.specs.Refusals.{BadList, Given}
+use Rattle.writer.specs.Refusals.{BadList, Cause, Given}
 use Rattle.writer.specs.declared.Writing.{Writing}
-use Rattle.writer.specs.declared.Writing.the-variants.{Done, Malformed, BadField, NoRoom}
+use Rattle.writer.specs.declared.Writing.the-variants.{Done, Malformed, WrongVersion, BadField, NoRoom}
 use Rattle.writer.proofs.Lengths.{at-most}
-use Rattle.writer.proofs.Sorting.{otherwise-lawful, exactly, given, done-is, is-whole, other}
+use Rattle.writer.proofs.Sorting.{otherwise-lawful, otherwise-known, past-eight, exactly, given, done-is, is-whole, other}
 
-module _ (p : Plan) (room : ℕ) where
+module _ (p : Plan) (v room : ℕ) where
   abbrev whole : Writing
-  whole = Done (length (blockOf p))
+  whole = Done (length (blockOf v p))
 
   -- the answer, with its length, is the one that the words give, and no other
-  pub given-exactly : (writing : Writing) → (writingOf p room ≡ writing) ↔ Given p room writing
-  given-exactly writing = (λ e. subst (Given p room) e (given p room), one-given (given p room))
+  pub given-exactly : (writing : Writing) → (writingOf p v room ≡ writing) ↔ Given p v room writing
+  given-exactly writing = (λ e. subst (Given p v room) e (given p v room), one-given (given p v room))
 
-  -- 10 exactly when the start width is not 1 or 3, or the count is above 32
-  pub ten-exactly : (paper (writingOf p room) ≡ answer 10 0 0) ↔ Unlawful p
-  ten-exactly = (λ e. caused (exactly p room Malformed refl .0 e) (other whole Malformed (omega arith)), λ u. exactly p room Malformed refl .1 (this u))
+  -- an answer behind the tests for 10 and 8
+  passes : {writing : Writing} → Given p v room writing → ¬ (Malformed ≡ writing) → ¬ (WrongVersion ≡ writing)
+      → Lawful p × Known v × FirstOf (Cause p v room) whole (BadField ∷ NoRoom ∷ []) writing
+  passes g n m =
+      let h = passed g n in
+      let k = passed (h .1) m in
+      (otherwise-lawful p (h .0), otherwise-known v (k .0), k .1)
 
-  -- 9 exactly when the list is lawful, and an op of it has a bad field
-  pub nine-exactly : (paper (writingOf p room) ≡ answer 9 0 0) ↔ (Lawful p × BadList p)
-  nine-exactly = (
-    λ e. let g = exactly p room BadField refl .0 e in
-        (otherwise-lawful p (passed g (other Malformed BadField (omega arith)) .0), caused g (other whole BadField (omega arith))),
-    λ h. exactly p room BadField refl .1 (later (never-both p (h .0)) (this (h .1))),
+  -- 10 exactly when the start width is not 1 or 3, the count is above 32, or the end width is false
+  pub ten-exactly : (paper (writingOf p v room) ≡ answer 10 0 0) ↔ Unlawful p
+  ten-exactly = (λ e. caused (exactly p v room Malformed refl .0 e) (other whole Malformed (omega arith)), λ u. exactly p v room Malformed refl .1 (this u))
+
+  -- 8 exactly when the list is lawful, and the version is not 1 or 2
+  pub eight-exactly : (paper (writingOf p v room) ≡ answer 8 0 0) ↔ (Lawful p × (¬ Known v))
+  eight-exactly = (
+    λ e. let g = exactly p v room WrongVersion refl .0 e in
+        (otherwise-lawful p (passed g (other Malformed WrongVersion (omega arith)) .0), caused g (other whole WrongVersion (omega arith))),
+    λ h. exactly p v room WrongVersion refl .1 (later (never-both p (h .0)) (this (h .1))),
   )
 
-  -- 12 exactly when the list is lawful, none of its fields is bad, and the buffer is shorter than the block
-  pub twelve-exactly : (paper (writingOf p room) ≡ answer 12 0 0) ↔ (Lawful p × (¬ BadList p) × (room < length (blockOf p)))
+  -- 9 exactly when the list is lawful, the version is 1 or 2, and an op of the list has a bad field
+  pub nine-exactly : (paper (writingOf p v room) ≡ answer 9 0 0) ↔ (Lawful p × Known v × BadList p)
+  nine-exactly = (
+    λ e. let g = exactly p v room BadField refl .0 e in
+        let h = passes g (other Malformed BadField (omega arith)) (other WrongVersion BadField (omega arith)) in
+        (h .0, h .1, caused g (other whole BadField (omega arith))),
+    λ h. exactly p v room BadField refl .1 (past-eight p v room (h .0) (h .1) (this (h .2))),
+  )
+
+  -- 12 exactly when the list is lawful, the version is 1 or 2, none of the fields is bad, and the buffer is shorter than the block
+  pub twelve-exactly : (paper (writingOf p v room) ≡ answer 12 0 0) ↔ (Lawful p × Known v × (¬ BadList p) × (room < length (blockOf v p)))
   twelve-exactly = (
-    λ e. let g = exactly p room NoRoom refl .0 e in
-        let h = passed g (other Malformed NoRoom (omega arith)) in
-        (otherwise-lawful p (h .0), passed (h .1) (other BadField NoRoom (omega arith)) .0, caused g (other whole NoRoom (omega arith))),
-    λ h. exactly p room NoRoom refl .1 (later (never-both p (h .0)) (later (h .1) (this (h .2)))),
+    λ e. let g = exactly p v room NoRoom refl .0 e in
+        let h = passes g (other Malformed NoRoom (omega arith)) (other WrongVersion NoRoom (omega arith)) in
+        (h .0, h .1, passed (h .2) (other BadField NoRoom (omega arith)) .0, caused g (other whole NoRoom (omega arith))),
+    λ h. exactly p v room NoRoom refl .1 (past-eight p v room (h .0) (h .1) (later (h .2) (this (h .3)))),
   )
 
   -- 0 otherwise
-  pub zero-exactly : (paper (writingOf p room) ≡ answer 0 0 0) ↔ (Lawful p × (¬ BadList p) × (length (blockOf p) ≤ room))
+  pub zero-exactly : (paper (writingOf p v room) ≡ answer 0 0 0) ↔ (Lawful p × Known v × (¬ BadList p) × (length (blockOf v p) ≤ room))
   zero-exactly = (
-    λ e. let h = passed (exactly p room whole refl .0 e) (other Malformed whole (omega arith)) in
-        let k = passed (h .1) (other BadField whole (omega arith)) in
+    λ e. let h = passes (exactly p v room whole refl .0 e) (other Malformed whole (omega arith)) (other WrongVersion whole (omega arith)) in
+        let k = passed (h .2) (other BadField whole (omega arith)) in
         let n = passed (k .1) (other NoRoom whole (omega arith)) .0 in
-        (otherwise-lawful p (h .0), k .0, enough n),
-    λ h. let l = h .2 in exactly p room whole refl .1 (later (never-both p (h .0)) (later (h .1) (later (short l) none))),
+        (h .0, h .1, k .0, enough n),
+    λ h. let l = h .3 in exactly p v room whole refl .1 (past-eight p v room (h .0) (h .1) (later (h .2) (later (short l) none))),
   )
     where
-      enough : ¬ (room < length (blockOf p)) → length (blockOf p) ≤ room
+      enough : ¬ (room < length (blockOf v p)) → length (blockOf v p) ≤ room
       enough n = omega arith
 
-      short : length (blockOf p) ≤ room → ¬ (room < length (blockOf p))
+      short : length (blockOf v p) ≤ room → ¬ (room < length (blockOf v p))
       short h k = omega arith
 
-  -- a buffer of 1,191 bytes is never too short
-  pub never-twelve : 1191 ≤ room → ¬ (paper (writingOf p room) ≡ answer 12 0 0)
+  -- a buffer of 1,192 bytes is never too short
+  pub never-twelve : 1192 ≤ room → ¬ (paper (writingOf p v room) ≡ answer 12 0 0)
   never-twelve h e =
       let t = twelve-exactly .0 e in
-      let k = t .2 in
-      omega (arith, at-most p (t .0))
+      let k = t .3 in
+      omega (arith, at-most p v (t .0))
 
-module _ (p : Plan) (old : List ℕ) where
+module _ (p : Plan) (v : ℕ) (old : List ℕ) where
   -- the length used, and the bytes so far: the block, "mark first"
-  pub writes-the-block : paper (writingOf p (length old)) ≡ answer 0 0 0
-      → (lengthOf (writingOf p (length old)) ≡ length (blockOf p)) × (take (length (blockOf p)) (leftOf p old) ≡ blockOf p)
+  pub writes-the-block : paper (writingOf p v (length old)) ≡ answer 0 0 0
+      → (lengthOf (writingOf p v (length old)) ≡ length (blockOf v p)) × (take (length (blockOf v p)) (leftOf p v old) ≡ blockOf v p)
   writes-the-block e =
-      let d = is-whole p (length old) e in
-      (ap lengthOf d, ap (λ (w : Writing). take (length (blockOf p)) (leftBy w (blockOf p) old)) d ∙ take-at (blockOf p) (drop (length (blockOf p)) old) (length (blockOf p)) refl)
+      let d = is-whole p v (length old) e in
+      (ap lengthOf d, ap (λ (w : Writing). take (length (blockOf v p)) (leftBy w (blockOf v p) old)) d ∙ take-at (blockOf v p) (drop (length (blockOf v p)) old) (length (blockOf v p)) refl)
 
   -- "Bytes past that length stay as they were."
-  pub past-stays : drop (lengthOf (writingOf p (length old))) (leftOf p old) ≡ drop (lengthOf (writingOf p (length old))) old
-  past-stays = by (writingOf p (length old)) (given p (length old))
+  pub past-stays : drop (lengthOf (writingOf p v (length old))) (leftOf p v old) ≡ drop (lengthOf (writingOf p v (length old))) old
+  past-stays = by (writingOf p v (length old)) (given p v (length old))
     where
-      by : (w : Writing) → Given p (length old) w → drop (lengthOf w) (leftBy w (blockOf p) old) ≡ drop (lengthOf w) old
-      by (Done n) g = drop-at (blockOf p) (drop n old) n (done-is p (length old) g)
+      by : (w : Writing) → Given p v (length old) w → drop (lengthOf w) (leftBy w (blockOf v p) old) ≡ drop (lengthOf w) old
+      by (Done n) g = drop-at (blockOf v p) (drop n old) n (done-is p v (length old) g)
       by Malformed g = refl
+      by WrongVersion g = refl
       by BadField g = refl
       by NoRoom g = refl
 
   -- a refusal "gives length 0 and leaves the buffer untouched"
-  pub refused-untouched : ¬ (paper (writingOf p (length old)) ≡ answer 0 0 0) → (lengthOf (writingOf p (length old)) ≡ 0) × (leftOf p old ≡ old)
-  refused-untouched n = by (writingOf p (length old)) n
+  pub refused-untouched : ¬ (paper (writingOf p v (length old)) ≡ answer 0 0 0) → (lengthOf (writingOf p v (length old)) ≡ 0) × (leftOf p v old ≡ old)
+  refused-untouched n = by (writingOf p v (length old)) n
     where
-      by : (w : Writing) → ¬ (paper w ≡ answer 0 0 0) → (lengthOf w ≡ 0) × (leftBy w (blockOf p) old ≡ old)
+      by : (w : Writing) → ¬ (paper w ≡ answer 0 0 0) → (lengthOf w ≡ 0) × (leftBy w (blockOf v p) old ≡ old)
       by (Done k) n = absurd (n refl)
       by Malformed n = (refl, refl)
+      by WrongVersion n = (refl, refl)
       by BadField n = (refl, refl)
       by NoRoom n = (refl, refl)

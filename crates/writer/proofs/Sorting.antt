@@ -1,75 +1,91 @@
--- Writing answers by the first cause in the order 10, 9, 12 that holds, and by no other; the paper's number tells which.
--- By the three tests, each of which holds exactly where its words do.
+-- Writing answers by the first cause in the order 10, 8, 9, 12 that holds, and by no other; the paper's number tells which.
+-- By the four tests, each of which holds exactly where its words do.
 use Prim.Native.Nat.{ℕ, _<_}
 use mathlib.Core.Path.{_≡_, refl, ap, sym, subst, _∙_}
 use mathlib.Core.Bool.{Bool, true, false}
 use mathlib.Core.Logic.{_↔_}
+use mathlib.Core.List.{[], _∷_}
 use native.Mathlib.Omega.{arith}
 use borrow.Author.Tests.{ltb-true, ltb-false}
 use lib.Dec.{eqb, ltb}
 use lib.ListN.{length}
 use Rattle.notation.specs.Choice.{if_then_else_}
 use Rattle.notation.specs.Answers.{answer}
-use Rattle.notation.specs.Order.{none, this, later}
+use Rattle.notation.specs.Order.{FirstOf, none, this, later}
 use Rattle.notation.specs.declared.Answer.{Answer}
 use Rattle.notation.proofs.Order.{one-given}
 use Rattle.notation.proofs.Tests.{fails-exactly}
 use Rattle.list.specs.Lists.{lawful, Lawful, Unlawful}
 use Rattle.list.specs.declared.Plan.{Plan}
 use Rattle.list.proofs.Formed.{lawful-exactly, unlawful-exactly, never-both}
+use Rattle.block.specs.Block.{knownVersion}
+use Rattle.block.specs.Refusals.{Known}
+use Rattle.block.proofs.Versions.{known-exactly}
 use Rattle.writer.specs.Bytes.{blockOf}
 use Rattle.writer.specs.Writing.{paper, badList, writingOf}
-use Rattle.writer.specs.Refusals.{Given}
+use Rattle.writer.specs.Refusals.{Cause, Given}
 use Rattle.writer.specs.declared.Writing.{Writing}
-use Rattle.writer.specs.declared.Writing.the-variants.{Done, Malformed, BadField, NoRoom}
+use Rattle.writer.specs.declared.Writing.the-variants.{Done, Malformed, WrongVersion, BadField, NoRoom}
 use Rattle.writer.proofs.Badness.{bad-exactly}
 
 pub other : (v w : Writing) → ¬ (paper v .number ≡ paper w .number) → ¬ (v ≡ w)
 other v w n e = n (rw e)
 
-pub otherwise-lawful : (p : Plan) → ¬ Unlawful p → Lawful p
-otherwise-lawful p n = by (lawful p) refl
+-- of two statements of which a test tells, one holds where the other does not
+otherwise : {a : Bool} {P N : Type 0} → ((a ≡ true) ↔ P) → ((a ≡ false) ↔ N) → ¬ N → P
+otherwise {a} {P} {N} f g n = by a f g
   where
-    by : (b : Bool) → lawful p ≡ b → Lawful p
-    by true e = lawful-exactly p .0 e
-    by false e = absurd (n (unlawful-exactly p .0 e))
+    by : (a : Bool) → ((a ≡ true) ↔ P) → ((a ≡ false) ↔ N) → P
+    by true f g = f .0 refl
+    by false f g = absurd (n (g .0 refl))
 
-module _ (p : Plan) where
+pub otherwise-lawful : (p : Plan) → ¬ Unlawful p → Lawful p
+otherwise-lawful p = otherwise (lawful-exactly p) (unlawful-exactly p)
+
+pub otherwise-known : (v : ℕ) → ¬ (¬ Known v) → Known v
+otherwise-known v = otherwise (known-exactly v) (fails-exactly (known-exactly v))
+
+module _ (p : Plan) (v : ℕ) where
   -- the answer of a number
   abbrev pub by-number : ℕ → Writing
-  by-number n = if eqb n 10 then Malformed else if eqb n 9 then BadField else if eqb n 12 then NoRoom else Done (length (blockOf p))
+  by-number n = if eqb n 10 then Malformed else if eqb n 8 then WrongVersion else if eqb n 9 then BadField else if eqb n 12 then NoRoom else Done (length (blockOf v p))
 
   abbrev pub Named : Writing → Type 0
   Named writing = by-number (paper writing .number) ≡ writing
 
   module _ (room : ℕ) where
-    told : Given p room (writingOf p room) × Named (writingOf p room)
+    -- behind the tests for 10 and 8
+    pub past-eight : {writing : Writing} → Lawful p → Known v → FirstOf (Cause p v room) (Done (length (blockOf v p))) (BadField ∷ NoRoom ∷ []) writing → Given p v room writing
+    past-eight l k rest = later (never-both p l) (later {a = WrongVersion} (λ n. n k) rest)
+
+    told : Given p v room (writingOf p v room) × Named (writingOf p v room)
     unfolding writingOf
-    told = by (lawful p) (badList p) (ltb room (length (blockOf p))) refl refl refl
+    told = by (lawful p) (knownVersion v) (badList p) (ltb room (length (blockOf v p))) refl refl refl refl
       where
-        enough : ltb room (length (blockOf p)) ≡ false → ¬ (room < length (blockOf p))
-        enough z h = let k = ltb-false room (length (blockOf p)) z in omega arith
+        enough : ltb room (length (blockOf v p)) ≡ false → ¬ (room < length (blockOf v p))
+        enough z h = let k = ltb-false room (length (blockOf v p)) z in omega arith
 
-        by : (a b c : Bool) → lawful p ≡ a → badList p ≡ b → ltb room (length (blockOf p)) ≡ c → Given p room (writingOf p room) × Named (writingOf p room)
-        by false b c x y z = rw x (this (unlawful-exactly p .0 x), refl)
-        by true true c x y z = rw (x, y) (later (never-both p (lawful-exactly p .0 x)) (this (bad-exactly p .0 y)), refl)
-        by true false true x y z =
-            rw (x, y, z) (later (never-both p (lawful-exactly p .0 x)) (later (fails-exactly (bad-exactly p) .0 y) (this (ltb-true room (length (blockOf p)) z))), refl)
-        by true false false x y z =
-            rw (x, y, z) (later (never-both p (lawful-exactly p .0 x)) (later (fails-exactly (bad-exactly p) .0 y) (later (enough z) none)), refl)
+        by : (a k b c : Bool) → lawful p ≡ a → knownVersion v ≡ k → badList p ≡ b → ltb room (length (blockOf v p)) ≡ c → Given p v room (writingOf p v room) × Named (writingOf p v room)
+        by false k b c x q y z = rw x (this (unlawful-exactly p .0 x), refl)
+        by true false b c x q y z = rw (x, q) (later (never-both p (lawful-exactly p .0 x)) (this (fails-exactly (known-exactly v) .0 q)), refl)
+        by true true true c x q y z = rw (x, q, y) (past-eight (lawful-exactly p .0 x) (known-exactly v .0 q) (this (bad-exactly p .0 y)), refl)
+        by true true false true x q y z =
+            rw (x, q, y, z) (past-eight (lawful-exactly p .0 x) (known-exactly v .0 q) (later (fails-exactly (bad-exactly p) .0 y) (this (ltb-true room (length (blockOf v p)) z))), refl)
+        by true true false false x q y z =
+            rw (x, q, y, z) (past-eight (lawful-exactly p .0 x) (known-exactly v .0 q) (later (fails-exactly (bad-exactly p) .0 y) (later (enough z) none)), refl)
 
-    pub exactly : (writing : Writing) → Named writing → (paper (writingOf p room) ≡ paper writing) ↔ Given p room writing
+    pub exactly : (writing : Writing) → Named writing → (paper (writingOf p v room) ≡ paper writing) ↔ Given p v room writing
     exactly writing n = (
-      λ e. subst (Given p room) (sym (told .1) ∙ ap (λ (a : Answer). by-number (a .number)) e ∙ n) (told .0),
+      λ e. subst (Given p v room) (sym (told .1) ∙ ap (λ (a : Answer). by-number (a .number)) e ∙ n) (told .0),
       λ g. ap paper (one-given (told .0) g),
     )
 
-    pub given : Given p room (writingOf p room)
+    pub given : Given p v room (writingOf p v room)
     given = told .0
 
     -- what is written is as long as the block
-    pub done-is : {n : ℕ} → Given p room (Done n) → length (blockOf p) ≡ n
-    done-is (later u (later b (later s none))) = refl
+    pub done-is : {n : ℕ} → Given p v room (Done n) → length (blockOf v p) ≡ n
+    done-is (later u (later k (later b (later s none)))) = refl
 
-    pub is-whole : paper (writingOf p room) ≡ answer 0 0 0 → writingOf p room ≡ Done (length (blockOf p))
+    pub is-whole : paper (writingOf p v room) ≡ answer 0 0 0 → writingOf p v room ≡ Done (length (blockOf v p))
     is-whole e = sym (told .1) ∙ ap (λ (a : Answer). by-number (a .number)) e

@@ -1,7 +1,9 @@
 -- A list as the bytes of its plan block: "Little-endian. Mark `CTP`, version u16 = 1, start width u8, count u8, then ops: a kind byte and its
--- fields in f32 unless said." (01, Plan block). Which fields a kind has, and in which order, is said in `parts`. Definitions only.
+-- fields in f32 unless said." (01, Plan block). "Plan block version 2 has the end width as one byte after the count". (02, W8)
+-- Which fields a kind has, and in which order, is said in `parts`. Definitions only.
 use Prim.Native.Nat.{ℕ, zero, suc, _+_, _/_, _%_}
 use mathlib.Core.List.{List, [], _∷_, _++_}
+use lib.Dec.{eqb}
 use lib.Ieee.{binary32, toBits}
 use Rattle.notation.specs.Choice.{if_then_else_}
 use Rattle.notation.specs.Text.{ascii}
@@ -40,13 +42,17 @@ joined bytes (x ∷ xs) = bytes x ++ joined bytes xs
 abbrev pub opBytes : Op → List ℕ
 opBytes o = kindOf o ∷ joined valueBytes (valuesOf o)
 
--- "Mark `CTP`, version u16 = 1, start width u8, count u8"
-abbrev pub headBytes : ℕ → ℕ → List ℕ
-headBytes start count = ascii "CTP" ++ (u16Bytes 1 ++ (start ∷ count ∷ []))
+-- version 2 has "the end width as one byte after the count"
+abbrev pub endBytes : ℕ → ℕ → List ℕ
+endBytes version end = if eqb version 2 then end ∷ [] else []
 
--- the block of a list
-abbrev pub blockOf : Plan → List ℕ
-blockOf p = headBytes (p .start) (p .count) ++ joined opBytes (opsOf p)
+-- "Mark `CTP`, version u16 .., start width u8, count u8"
+abbrev pub headBytes : ℕ → Plan → List ℕ
+headBytes version p = (ascii "CTP" ++ (u16Bytes version ++ (p .start ∷ p .count ∷ []))) ++ endBytes version (p .end)
+
+-- the block of a list, in this version
+abbrev pub blockOf : ℕ → Plan → List ℕ
+blockOf version p = headBytes version p ++ joined opBytes (opsOf p)
 
 -- the bytes that 01's table gives for ops: a kind byte and "payload bytes" each
 abbrev pub opsSize : List Op → ℕ

@@ -1,4 +1,4 @@
--- When each answer is given, in words and apart from the tests. (02, W3). Definitions and relations only.
+-- When each answer is given, in words and apart from the tests. (02, W3, W8). Definitions and relations only.
 use Prim.Native.Nat.{ℕ, _<_}
 use mathlib.Core.Path.{_≡_}
 use mathlib.Core.List.{List, [], _∷_}
@@ -13,9 +13,10 @@ use Rattle.parts.specs.declared.Value.{Value}
 use Rattle.parts.specs.declared.Value.the-variants.{Float as the-float, Curve as the-curve}
 use Rattle.list.specs.Lists.{opsOf, Unlawful}
 use Rattle.list.specs.declared.Plan.{Plan}
+use Rattle.block.specs.Refusals.{Known}
 use Rattle.writer.specs.Bytes.{blockOf}
 use Rattle.writer.specs.declared.Writing.{Writing}
-use Rattle.writer.specs.declared.Writing.the-variants.{Done, Malformed, BadField, NoRoom}
+use Rattle.writer.specs.declared.Writing.the-variants.{Done, Malformed, WrongVersion, BadField, NoRoom}
 
 -- of "Bad fields: NaN, a flag above 1, a curve above 8, `g` out of range or nonzero for curves 2 to 8." (01, Plan block) a list can hold two
 pub data Bad : Value → Type 0 where
@@ -34,15 +35,16 @@ abbrev pub BadList : Plan → Type 0
 BadList p = Some BadOp (opsOf p)
 
 -- what each refusal is given for
-abbrev pub Cause : Plan → ℕ → Writing → Type 0
-Cause p room Malformed = Unlawful p
-Cause p room BadField = BadList p
-Cause p room NoRoom = room < length (blockOf p)
-Cause p room (Done n) = Unit {0}
+abbrev pub Cause : Plan → ℕ → ℕ → Writing → Type 0
+Cause p version room Malformed = Unlawful p
+Cause p version room WrongVersion = ¬ Known version
+Cause p version room BadField = BadList p
+Cause p version room NoRoom = room < length (blockOf version p)
+Cause p version room (Done n) = Unit {0}
 
--- "in this order 10, 9 .., 12"; where none of these is given, the block's length
+-- "in this order 10, 9 .., 12", and 8 "tested after 10"; where none of these is given, the block's length
 abbrev pub order : List Writing
-order = Malformed ∷ BadField ∷ NoRoom ∷ []
+order = Malformed ∷ WrongVersion ∷ BadField ∷ NoRoom ∷ []
 
-abbrev pub Given : Plan → ℕ → Writing → Type 0
-Given p room writing = FirstOf (Cause p room) (Done (length (blockOf p))) order writing
+abbrev pub Given : Plan → ℕ → ℕ → Writing → Type 0
+Given p version room writing = FirstOf (Cause p version room) (Done (length (blockOf version p))) order writing

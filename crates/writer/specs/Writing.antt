@@ -1,5 +1,6 @@
 -- What writing a list into a lent buffer answers and leaves there. "Refusals: in this order 10, 9 for a list the reader would refuse by 9, 12 for a
--- buffer too short; each gives length 0 and leaves the buffer untouched." (02, W3). Definitions only.
+-- buffer too short; each gives length 0 and leaves the buffer untouched." (02, W3). "The writer writes the version asked for"; "writing any
+-- other version 8, tested after 10". (02, W8). Definitions only.
 use Prim.Native.Nat.{ℕ}
 use mathlib.Core.Bool.{Bool, false, not, _||_}
 use mathlib.Core.List.{List, [], _∷_, _++_}
@@ -16,14 +17,16 @@ use Rattle.parts.specs.declared.Value.{Value}
 use Rattle.parts.specs.declared.Value.the-variants.{Float as the-float, Flag as the-flag, Curve as the-curve}
 use Rattle.list.specs.Lists.{opsOf, lawful}
 use Rattle.list.specs.declared.Plan.{Plan}
+use Rattle.block.specs.Block.{knownVersion}
 use Rattle.writer.specs.Bytes.{blockOf}
 use Rattle.writer.specs.declared.Writing.{Writing}
-use Rattle.writer.specs.declared.Writing.the-variants.{Done, Malformed, BadField, NoRoom}
+use Rattle.writer.specs.declared.Writing.the-variants.{Done, Malformed, WrongVersion, BadField, NoRoom}
 
 -- no position is named, and no width
 abbrev pub paper : Writing → Answer
 paper (Done n) = answer 0 0 0
 paper Malformed = answer 10 0 0
+paper WrongVersion = answer 8 0 0
 paper BadField = answer 9 0 0
 paper NoRoom = answer 12 0 0
 
@@ -31,6 +34,7 @@ paper NoRoom = answer 12 0 0
 abbrev pub lengthOf : Writing → ℕ
 lengthOf (Done n) = n
 lengthOf Malformed = 0
+lengthOf WrongVersion = 0
 lengthOf BadField = 0
 lengthOf NoRoom = 0
 
@@ -51,20 +55,22 @@ badOp o = any badValue (valuesOf o)
 abbrev pub badList : Plan → Bool
 badList p = any badOp (opsOf p)
 
--- what writing into so many bytes answers: "in this order 10, 9 .., 12"
-unfoldable pub writingOf : Plan → ℕ → Writing
-writingOf p room =
+-- what writing in this version into so many bytes answers: "in this order 10, 9 .., 12", and 8 "tested after 10"
+unfoldable pub writingOf : Plan → ℕ → ℕ → Writing
+writingOf p version room =
     if not (lawful p) then Malformed
+    else if not (knownVersion version) then WrongVersion
     else if badList p then BadField
-    else if ltb room (length (blockOf p)) then NoRoom
-    else Done (length (blockOf p))
+    else if ltb room (length (blockOf version p)) then NoRoom
+    else Done (length (blockOf version p))
 
 -- the buffer after it: the block, "mark first", and "bytes past that length stay as they were"; a refusal "leaves the buffer untouched"
 abbrev pub leftBy : Writing → List ℕ → List ℕ → List ℕ
 leftBy (Done n) block old = block ++ drop n old
 leftBy Malformed block old = old
+leftBy WrongVersion block old = old
 leftBy BadField block old = old
 leftBy NoRoom block old = old
 
-abbrev pub leftOf : Plan → List ℕ → List ℕ
-leftOf p old = leftBy (writingOf p (length old)) (blockOf p) old
+abbrev pub leftOf : Plan → ℕ → List ℕ → List ℕ
+leftOf p version old = leftBy (writingOf p version (length old)) (blockOf version p) old

@@ -8,7 +8,7 @@ ghost use Rattle.list.specs.Lists.{opOf};
 ghost use Rattle.parts.specs.Parts.{valueOf};
 ghost use Rattle.parts.specs.declared.Value.the-variants.{Curve as the-curve};
 ghost use Rattle.buffer.specs.Buffer.{Room, Put};
-ghost use Rattle.writer.specs.Bytes.{u32Bytes, valueBytes, joined, opBytes, headBytes, blockOf};
+ghost use Rattle.writer.specs.Bytes.{u32Bytes, valueBytes, joined, opBytes, endBytes, headBytes, blockOf};
 ghost use Rattle.writer.specs.Writing.{badValue, badOp, badList, any};
 use list::Plan;
 use list::Slot;
@@ -101,24 +101,40 @@ fn put_ops(out: &mut [u8], at: usize, slots: [Slot; 32], count: usize) -> usize
     next
 }
 
-fn put_head(out: &mut [u8], start: u8, count: u8) -> usize
-    requires { ⌜ Room (now out) 0 (headBytes start count) ⌝ }
-    ensures { λ r. ⌜ Put (now (out .entry)) 0 (headBytes start count) (now (out .exit)) r ⌝ }
+fn put_end(out: &mut [u8], at: usize, version: u16, end: u8) -> usize
+    requires { ⌜ Room (now out) at (endBytes version end) ⌝ }
+    ensures { λ r. ⌜ Put (now (out .entry)) at (endBytes version end) (now (out .exit)) r ⌝ }
 {
-    let mark = block::MARK;
-    let version = block::VERSION;
-    let low = (version % 0x100) as u8;
-    let high = (version / 0x100) as u8;
-    let head = [mark[0], mark[1], mark[2], low, high, start, count];
-    put(out, 0, &head)
+    if version == 2 {
+        return put(out, at, &[end]);
+    }
+    at
 }
 
-pub(crate) fn put_block(out: &mut [u8], plan: Plan) -> usize
-    requires { ⌜ Room (now out) 0 (blockOf plan) ⌝ }
+fn put_head(out: &mut [u8], version: u16, plan: Plan) -> usize
+    requires { ⌜ Room (now out) 0 (headBytes version plan) ⌝ }
+    requires { ⌜ plan .count ≤ 32 ⌝ }
+    ensures { λ r. ⌜ Put (now (out .entry)) 0 (headBytes version plan) (now (out .exit)) r ⌝ }
+{
+    let mark = block::MARK;
+    let low = (version % 0x100) as u8;
+    let high = (version / 0x100 % 0x100) as u8;
+    let start = plan.start;
+    let count = plan.count as u8;
+    let next = put(
+        out,
+        0,
+        &[mark[0], mark[1], mark[2], low, high, start, count],
+    );
+    put_end(out, next, version, plan.end)
+}
+
+pub(crate) fn put_block(out: &mut [u8], version: u16, plan: Plan) -> usize
+    requires { ⌜ Room (now out) 0 (blockOf version plan) ⌝ }
     requires { ⌜ (plan .count ≤ 32) × (badList plan ≡ false) ⌝ }
-    ensures { λ r. ⌜ Put (now (out .entry)) 0 (blockOf plan) (now (out .exit)) r ⌝ }
+    ensures { λ r. ⌜ Put (now (out .entry)) 0 (blockOf version plan) (now (out .exit)) r ⌝ }
 {
     let slots = plan.ops;
-    let next = put_head(out, plan.start, plan.count as u8);
+    let next = put_head(out, version, plan);
     put_ops(out, next, slots, plan.count)
 }

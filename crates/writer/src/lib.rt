@@ -10,14 +10,16 @@ use list::Plan;
 use notation::Answer;
 
 // No block is longer: a buffer of so many bytes is never too short.
-pub const LONGEST: usize = 1191;
+pub const LONGEST: usize = 1192;
 
 // What writing answers.
 pub enum Writing {
     // So many bytes are written.
     Done { length: usize },
-    // 10: the start width is not 1 or 3, or the count is above 32.
+    // 10: the start width is not 1 or 3, the count is above 32, or the end width is false.
     Malformed,
+    // 8: no such version.
+    WrongVersion,
     // 9: a field that the reader would refuse.
     BadField,
     // 12: the buffer is too short.
@@ -36,6 +38,11 @@ pub fn paper(writing: Writing) -> Answer
         },
         Writing::Malformed => Answer {
             number: 10,
+            position: 0,
+            width: 0,
+        },
+        Writing::WrongVersion => Answer {
+            number: 8,
             position: 0,
             width: 0,
         },
@@ -59,18 +66,22 @@ pub fn length(writing: Writing) -> usize
     match writing {
         Writing::Done { length } => length,
         Writing::Malformed => 0,
+        Writing::WrongVersion => 0,
         Writing::BadField => 0,
         Writing::NoRoom => 0,
     }
 }
 
-// Puts the block of a list at the front of a buffer; the bytes behind it stay, and a refusal leaves all as it was.
-pub fn write(plan: Plan, bytes: &mut [u8]) -> Writing
-    ensures { λ r. ⌜ r ≡ writingOf plan (length (now (bytes .entry))) ⌝ }
-    ensures { λ _. ⌜ now (bytes .exit) ≡ leftOf plan (now (bytes .entry)) ⌝ }
+// Puts the block of a list, in version 1 or 2, at the front of a buffer; the bytes behind it stay, and a refusal leaves all as it was.
+pub fn write(plan: Plan, version: u16, bytes: &mut [u8]) -> Writing
+    ensures { λ r. ⌜ r ≡ writingOf plan version (length (now (bytes .entry))) ⌝ }
+    ensures { λ _. ⌜ now (bytes .exit) ≡ leftOf plan version (now (bytes .entry)) ⌝ }
 {
     if !list::lawful(plan) {
         return Writing::Malformed;
+    }
+    if !block::known_version(version) {
+        return Writing::WrongVersion;
     }
     let slots = plan.ops;
     if bad::bad_ops(slots, plan.count) {
@@ -78,7 +89,7 @@ pub fn write(plan: Plan, bytes: &mut [u8]) -> Writing
     }
     // Laid out apart, since a buffer that is too short stays untouched.
     let mut block = [0u8; LONGEST];
-    let used = laying::put_block(&mut block, plan);
+    let used = laying::put_block(&mut block, version, plan);
     if bytes.len() < used {
         return Writing::NoRoom;
     }

@@ -1,9 +1,10 @@
 //! Plan blocks, good and damaged. The Rust has none, so a reader judges that is written here, from
-//! 01's table.
+//! 01's table and W8.
 
 pub mod cases;
 
 use crate::encodings::GREATEST_G;
+use crate::lists;
 use crate::ops::Op;
 use crate::record::{Kind, LONGEST, Record};
 use crate::rng::Rng;
@@ -35,19 +36,28 @@ pub const FIELDS: [&[Field]; 10] = [
 
 /// What a good block says, and what follows it.
 pub struct Block<'a> {
+    pub version: u16,
     pub start: u8,
     pub ops: Vec<Op>,
     pub rest: &'a [u8],
 }
 
-/// "Order: under 7 bytes (7), 8, 10, then op by op."
+/// "Order: under 7 bytes (7), 8, 10, then op by op." In version 2 "7 for a missing end width byte, after 8 and before 10, and 9 for a
+/// false one, after the ops".
 pub fn read(bytes: &[u8]) -> Result<Block<'_>, u32> {
     let (head, mut rest) = bytes.split_first_chunk::<7>().ok_or(7u32)?;
     let [mark @ .., low, high, start, count] = head;
-    if mark != b"CTP" || u16::from_le_bytes([*low, *high]) != 1 {
+    let version = u16::from_le_bytes([*low, *high]);
+    if mark != b"CTP" || !matches!(version, 1 | 2) {
         return Err(8);
     }
-    if !matches!(start, 1 | 3) || *count > 32 {
+    let mut told = None;
+    if version == 2 {
+        let (end, after) = rest.split_first().ok_or(7u32)?;
+        told = Some(*end);
+        rest = after;
+    }
+    if !lists::well_formed(*start, *count as usize) {
         return Err(10);
     }
     let mut ops = Vec::new();
@@ -56,7 +66,11 @@ pub fn read(bytes: &[u8]) -> Result<Block<'_>, u32> {
         ops.push(op);
         rest = after;
     }
+    if told.is_some_and(|end| end != lists::end_width(*start, &ops)) {
+        return Err(9);
+    }
     Ok(Block {
+        version,
         start: *start,
         ops,
         rest,
@@ -110,12 +124,30 @@ impl Field {
     }
 }
 
+/// Blocks of version 1, as 01 has them.
 pub fn write(rng: &mut Rng, count: usize, out: &mut impl Write) {
-    let mut fixed = cases::fixed().into_iter();
+    written("block", cases::fixed(), cases::random, rng, count, out);
+}
+
+/// Blocks of version 2.
+pub fn write_second(rng: &mut Rng, count: usize, out: &mut impl Write) {
+    let (fixed, random) = (cases::second(), cases::random_second);
+    written("block-second", fixed, random, rng, count, out);
+}
+
+fn written(
+    name: &str,
+    fixed: Vec<Vec<u8>>,
+    random: impl Fn(&mut Rng) -> Vec<u8>,
+    rng: &mut Rng,
+    count: usize,
+    out: &mut impl Write,
+) {
+    let mut fixed = fixed.into_iter();
     let mut refused = [0; 11];
     for _ in 0..count {
         let (bytes, record) = loop {
-            let bytes = fixed.next().unwrap_or_else(|| cases::random(rng));
+            let bytes = fixed.next().unwrap_or_else(|| random(rng));
             let record = record(&bytes);
             if record.bytes() <= LONGEST {
                 break (bytes, record);
@@ -125,7 +157,7 @@ pub fn write(rng: &mut Rng, count: usize, out: &mut impl Write) {
         record.write(out);
     }
     eprintln!(
-        "block: {count} blocks, {} of them refused by 7, {} by 8, {} by 9 and {} by 10",
+        "{name}: {count} blocks, {} of them refused by 7, {} by 8, {} by 9 and {} by 10",
         refused[7], refused[8], refused[9], refused[10]
     );
 }
@@ -135,10 +167,11 @@ fn record(bytes: &[u8]) -> Record {
         .words(&[bytes.len() as u32])
         .packed(bytes);
     match read(bytes) {
-        Ok(Block { start, ops, rest }) => record
-            .words(&[0, rest.len() as u32, start as u32, ops.len() as u32])
-            .words(&ops.concat()),
-        Err(number) => record.words(&[number, bytes.len() as u32, 0, 0]),
+        Ok(block) => record
+            .words(&[0, block.rest.len() as u32])
+            .words(&[block.version as u32, block.start as u32])
+            .words(&lists::words(block.start as usize, &block.ops)),
+        Err(number) => record.words(&[number, bytes.len() as u32, 0, 0, 0, 0]),
     }
 }
 
@@ -158,7 +191,7 @@ mod tests {
     fn listed() {
         let block = read(&cases::LISTED).unwrap();
         let xy = vec![1, 0.5f32.to_bits(), 0.25f32.to_bits()];
-        assert_eq!((block.start, block.rest), (1, &[][..]));
+        assert_eq!((block.version, block.start, block.rest), (1, 1, &[][..]));
         assert_eq!(block.ops, [vec![9], xy, vec![2]]);
     }
 }

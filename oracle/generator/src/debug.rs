@@ -1,6 +1,8 @@
 //! A plan as words. 01 has the Rust's plans read from their `Debug` print; the door reads the bits,
 //! and here the print is made again from them and compared.
 
+use crate::lists;
+use crate::ops::Op;
 use given::ColorTransform;
 use given::door::curve;
 
@@ -72,17 +74,31 @@ impl Words<'_> {
     }
 }
 
-/// The number of ops of a plan, and then each op, as the door reads them and its print says.
-pub fn words(plan: &ColorTransform) -> Vec<u32> {
+/// The ops of a plan, as the door reads them and its print says.
+pub fn ops(plan: &ColorTransform) -> Vec<Op> {
     let words = plan.words();
     let mut rest = Words(words.iter());
-    let ops: Vec<String> = (0..rest.word()).map(|_| rest.op()).collect();
+    let (mut ops, mut prints) = (Vec::new(), Vec::new());
+    for _ in 0..rest.word() {
+        let from = rest.0.as_slice();
+        prints.push(rest.op());
+        ops.push(from[..from.len() - rest.0.len()].to_vec());
+    }
     assert!(rest.0.next().is_none(), "words after the last op");
     let start = plan.input_channels();
     let print = format!(
         "ColorTransform {{ begin_channels: {start}, ops: [{}] }}",
-        ops.join(", ")
+        prints.join(", ")
     );
     assert_eq!(print, format!("{plan:?}"));
-    words
+    ops
+}
+
+/// The number of ops of a plan, its end width, and then each op. Where the width check passes, the Rust counts as many channels.
+pub fn words(plan: &ColorTransform) -> Vec<u32> {
+    let (start, ops) = (plan.input_channels(), ops(plan));
+    if let Ok(width) = lists::checked(start as u8, &ops) {
+        assert_eq!(width as usize, plan.output_channels());
+    }
+    lists::words(start, &ops)
 }

@@ -11,7 +11,9 @@ mod encodings;
 mod firmware;
 mod floats;
 mod fused;
+mod handed;
 mod libm;
+mod lists;
 mod merge;
 mod ops;
 mod plan;
@@ -27,8 +29,9 @@ mod ycbcr;
 
 use std::io::{BufWriter, Write};
 
-const USAGE: &str = "usage: oracle fused|cbrt|ciexyz|plan|merge|run|strips|ycbcr|block|screen|writing|bytes|codes|levels SEED COUNT, \
-                     or oracle cbrt-census, or oracle screen-census, or oracle every-pixel, or oracle tie-census, or oracle codes-census, or oracle differences";
+const USAGE: &str = "usage: oracle fused|cbrt|ciexyz|plan|merge|run|strips|ycbcr|block|screen|writing|block-second|writing-versions|handed|bytes|codes|levels \
+                     SEED COUNT, or oracle cbrt-census, or oracle screen-census, or oracle every-pixel, or oracle tie-census, or oracle codes-census, \
+                     or oracle differences";
 
 fn number<T: std::str::FromStr>(word: Option<String>) -> T {
     word.and_then(|word| word.parse().ok()).expect(USAGE)
@@ -64,6 +67,9 @@ fn main() {
         "bytes" => bytes::write(rng, count, out),
         "codes" => srgb10::write_codes(rng, count, out),
         "levels" => srgb10::write_levels(rng, count, out),
+        "block-second" => block::write_second(rng, count, out),
+        "writing-versions" => writing::write_versions(rng, count, out),
+        "handed" => handed::write(rng, count, out),
         _ => panic!("{USAGE}"),
     }
     out.flush().expect("standard output");

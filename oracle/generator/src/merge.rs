@@ -1,6 +1,7 @@
 //! Lists of ops, merged by the given `optimize`.
 
 use crate::debug;
+use crate::lists;
 use crate::ops::{Op, list};
 use crate::record::{Kind, LONGEST, Record};
 use crate::rng::Rng;
@@ -23,8 +24,8 @@ pub fn write(rng: &mut Rng, count: usize, out: &mut impl Write) {
 
 fn record(start: usize, ops: &[Op]) -> Record {
     Record::new(Kind::Merge)
-        .words(&[start as u32, ops.len() as u32])
-        .words(&ops.concat())
+        .words(&[start as u32])
+        .words(&lists::words(start, ops))
         .words(&debug::words(&list(start, ops).merged()))
 }
 

@@ -10,9 +10,8 @@ pub type Op = Vec<u32>;
 
 /// The Rust's list of these ops.
 pub fn list(start: usize, ops: &[Op]) -> ColorTransform {
-    let words = ops.concat();
-    let list = ColorTransform::from_words(start, ops.len(), &words);
-    assert_eq!(debug::words(&list)[1..], words);
+    let list = ColorTransform::from_words(start, ops.len(), &ops.concat());
+    assert_eq!(debug::ops(&list), ops);
     list
 }
 

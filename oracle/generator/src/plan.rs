@@ -36,7 +36,7 @@ pub fn write(rng: &mut Rng, count: usize, out: &mut impl Write) {
     );
 }
 
-/// The number, the start width, the number of ops and the ops.
+/// The number, the start width, the number of ops, the end width and the ops.
 fn answer(case: &Case) -> Vec<u32> {
     let side = |e: &EnumColourEncoding| ColorEncodingWithProfile::new(e.clone());
     let s = &case.settings;
@@ -54,7 +54,7 @@ fn answer(case: &Case) -> Vec<u32> {
             answer.extend(debug::words(&plan));
             answer
         }
-        Err(Error::UnsupportedColorEncoding) => vec![3, 0, 0],
+        Err(Error::UnsupportedColorEncoding) => vec![3, 0, 0, 0],
         Err(other) => panic!("{other:?}"),
     }
 }

@@ -29,6 +29,7 @@ pub enum Kind {
     Bytes = 21,
     Code = 22,
     Levels = 23,
+    Handed = 24,
 }
 
 /// The longest line, with its newline.

@@ -2,6 +2,7 @@
 
 use crate::cbrt::exact;
 use crate::edges::{ORDINARY, at_edges};
+use crate::lists;
 use crate::ops::{Op, list};
 use crate::record::{Kind, LONGEST, Record};
 use crate::rng::Rng;
@@ -95,8 +96,8 @@ impl Case {
     /// The start width, the list and the channels.
     pub fn asked(&self, kind: Kind) -> Record {
         Record::new(kind)
-            .words(&[self.start as u32, self.ops.len() as u32])
-            .words(&self.ops.concat())
+            .words(&[self.start as u32])
+            .words(&lists::words(self.start, &self.ops))
             .words(&[self.length() as u32])
             .floats(&self.channels.concat())
     }

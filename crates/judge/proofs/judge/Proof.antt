@@ -23,7 +23,7 @@ first-uncarried-requires : tie.Need-first-uncarried-requires
 first-uncarried-requires c κs =
     let v = c .before .before in
     let k = v .before .before in
-    passes-exactly (k .before .args .plan) _ .0 (ap paper (sym (k .check .ensures) ∙ v .verdict2 .given .1)) .0 .1
+    passes-exactly (k .before .args .plan) _ .0 (ap paper (sym (k .check .ensures) ∙ v .verdict2 .given .1)) .0 .0 .1
 
 enum-known-uncarried : tie.Need-enum-known-uncarried
 enum-known-uncarried c = search needs

@@ -22,7 +22,8 @@ returns c =
 padded-requires : tie.Need-padded-requires
 padded-requires c κs =
     let l = c .before .before in
-    lawful-exactly (l .before .args .plan) .0 (sym (l .lawful .ensures) ∙ not-false _ (c .before .if1 .left)) .1
+    let k = lawful-exactly (l .before .args .plan) .0 (sym (l .lawful .ensures) ∙ not-false _ (c .before .if1 .left)) in
+    (k .0 .1, k .1)
 
 returns-2 : tie.Need-returns-2
 returns-2 c =

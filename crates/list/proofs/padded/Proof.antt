@@ -13,11 +13,11 @@ use Rattle.list.proofs.padded.Statement.{statement}
 use Rattle.list.proofs.padded.Tie as tie
 
 abbrev Inv-loop : tie.InvT-loop
-Inv-loop start count slots out₀ i₀ out i =
+Inv-loop start count end slots out₀ i₀ out i =
     (i ≤ count) × (out .start ≡ start) × (length slots ≡ 32) × Rewritten slots (replicate 32 (slot O.Clip)) i (out .ops)
 
 abbrev μ-loop : tie.MeasureT-loop
-μ-loop start count slots out₀ i₀ out i = count - i
+μ-loop start count end slots out₀ i₀ out i = count - i
 
 empty-requires : tie.Need-empty-requires Inv-loop μ-loop
 empty-requires c κs = search needs
@@ -54,7 +54,7 @@ returns : tie.Need-returns Inv-loop μ-loop
 returns c =
     let v = c .before .loop .inv in
     let e : c .before .loop .i ≡ c .before .before .before .args .count = omega arith in
-    rw (v .1) (filled _ _ _ _ (omega arith) (v .2) (rw e at (v .3 .is)))
+    rw (v .1) (filled _ _ _ _ (omega arith) (v .2) (rw e at (v .3 .is)) _ (c .before .before .before .pre .1))
 
 pub padded-spec : {M : Type 1} → statement M
 padded-spec =

@@ -10,7 +10,7 @@ use lib.ListN.{length}
 use Rattle.list.specs.Lists.{opsOf, lawful}
 use Rattle.list.proofs.Owned.{thirty-two}
 use Rattle.list.proofs.Formed.{lawful-exactly}
-use Rattle.list.proofs.Building.{refused, no-room, counted, pushes, one-more}
+use Rattle.list.proofs.Building.{refused, no-room, counted, next-end, pushes, one-more}
 use Rattle.list.proofs.push.Statement.{statement}
 use Rattle.list.proofs.push.Tie as tie
 
@@ -33,7 +33,7 @@ is-lawful : (c : tie.Else1) → lawful (c .before .before .args .plan) ≡ true
 is-lawful c = sym (c .before .lawful .ensures) ∙ not-false _ (c .if1 .left)
 
 at-most : (c : tie.Else1) → c .before .before .args .plan .count ≤ 32
-at-most c = lawful-exactly (c .before .before .args .plan) .0 (is-lawful c) .1
+at-most c = lawful-exactly (c .before .before .args .plan) .0 (is-lawful c) .0 .1
 
 full-count : (c : tie.Else1) → length (opsOf (c .before .before .args .plan)) ≡ c .before .before .args .plan .count
 full-count c = counted (c .before .before .args .plan) (thirty-two (c .before .before .args .plan) (c .before .before .good .0)) (at-most c)
@@ -47,10 +47,10 @@ returns-2 c =
     c .empty2 .ensures ∙ no-room (z .args .plan) (z .args .op) (full-count (c .before .before) ∙ c .before .if2 .taken)
 
 padded-requires : tie.Need-padded-requires
-padded-requires c κs = at-most (c .before .before)
+padded-requires c κs = (at-most (c .before .before), lawful-exactly (c .before .before .before .before .args .plan) .0 (is-lawful (c .before .before)) .1)
 
-mul-t11 : tie.Need-mul-t11
-mul-t11 c = omega (arith, below (c .before .before))
+mul-t12 : tie.Need-mul-t12
+mul-t12 c = omega (arith, below (c .before .before))
 
 element-set-from-longer : tie.Need-element-set-from-longer
 element-set-from-longer c = below (c .before .before)
@@ -58,13 +58,20 @@ element-set-from-longer c = below (c .before .before)
 add-longer : tie.Need-add-longer
 add-longer c = omega (arith, below (c .before .before))
 
+led-to-requires : tie.Need-led-to-requires
+led-to-requires c κs = search needs
+
 returns-3 : tie.Need-returns-3
 returns-3 c =
-    let p = c .before .before .before .before .before .args .plan in
-    let o = c .before .before .before .before .before .args .op in
-    let e = full-count (c .before .before .before) in
-    let h : length (opsOf p) < 32 = omega (arith, below (c .before .before), e) in
-    rw (c .padded .ensures) (one-more (p .start) (opsOf p) o (p .count) e (below (c .before .before)) ∙ pushes p o (is-lawful (c .before .before .before)) h)
+    let q = c .before .before .before in
+    let p = q .before .before .before .args .plan in
+    let o = q .before .before .before .args .op in
+    let e = full-count (q .before) in
+    let b = below q in
+    let l = is-lawful (q .before) in
+    let h : length (opsOf p) < 32 = omega (arith, b, e) in
+    rw (c .before .padded .ensures, c .led-to .ensures)
+    (one-more (p .start) (opsOf p) o (p .count) _ e b (next-end p o l b) ∙ pushes p o l h)
 
 pub push-spec : {M : Type 1} → statement M
 push-spec =
@@ -76,7 +83,8 @@ push-spec =
     empty-requires-2
     returns-2
     padded-requires
-    mul-t11
+    mul-t12
     element-set-from-longer
     add-longer
+    led-to-requires
     returns-3)

@@ -16,13 +16,13 @@ put-first-line-requires : tie.Need-put-first-line-requires
 put-first-line-requires c κs =
     let z = c .before .before .before in
     let p = z .args .plan in
-    (first (firstLine (p .start) (p .count)) (opLines 0 (opsOf p)) (z .pre .0), (omega (arith, start-small p (z .pre .1)), omega (arith, z .pre .1 .1)))
+    (first (firstLine (p .start) (p .count)) (opLines 0 (opsOf p)) (z .pre .0), (omega (arith, start-small p (z .pre .1)), omega (arith, z .pre .1 .0 .1)))
 
 put-op-lines-requires : tie.Need-put-op-lines-requires
 put-op-lines-requires c κs =
     let z = c .before .before .before .before .before .before .before in
     let p = z .args .plan in
-    (rest (firstLine (p .start) (p .count)) (opLines 0 (opsOf p)) (z .pre .0) (c .before .before .before .put-first-line .ensures), z .pre .1 .1)
+    (rest (firstLine (p .start) (p .count)) (opLines 0 (opsOf p)) (z .pre .0) (c .before .before .before .put-first-line .ensures), z .pre .1 .0 .1)
 
 same-length : tie.Need-same-length
 same-length c = search needs

@@ -18,7 +18,7 @@ returns c = rw (← c .before .before .lawful .ensures, not-true (c .before .bef
 
 merge-ops-requires : tie.Need-merge-ops-requires
 merge-ops-requires c κs =
-    lawful-exactly (c .before .before .before .args .plan) .0 (sym (c .before .before .lawful .ensures) ∙ not-false _ (c .before .if1 .left))
+    lawful-exactly (c .before .before .before .args .plan) .0 (sym (c .before .before .lawful .ensures) ∙ not-false _ (c .before .if1 .left)) .0
 
 returns-2 : tie.Need-returns-2
 returns-2 c = rw (← c .before .before .before .lawful .ensures, not-false (c .before .before .before .lawful .result) (c .before .before .if1 .left), c .merge-ops .ensures)

@@ -4,7 +4,7 @@ use mathlib.Core.Path.{refl}
 use borrow.Author.Needs.{needs}
 use Rattle.buffer.proofs.Putting.{listed}
 use Rattle.buffer.proofs.Within.{within, counts}
-use Rattle.writer.proofs.Answering.{malformed, formed, bad, asks, short, done}
+use Rattle.writer.proofs.Answering.{malformed, formed, unknown, bad, asks, short, done}
 use Rattle.writer.proofs.write.Statement.{statement}
 use Rattle.writer.proofs.write.Tie as tie
 
@@ -15,43 +15,61 @@ returns : tie.Need-returns
 returns c =
     let l = c .before in
     let a = l .before .before .args in
-    malformed (a .plan) (a .bytes .now) (l .lawful .ensures) (c .if1 .taken)
+    malformed (a .plan) (a .version) (a .bytes .now) (l .lawful .ensures) (c .if1 .taken)
 
-bad-ops-requires : tie.Need-bad-ops-requires
-bad-ops-requires c κs =
-    let l = c .before .before in
-    let a = l .before .before .args in
-    formed (a .plan) (a .bytes .now) (l .lawful .ensures) (c .before .if1 .left) .1
+known-version-requires : tie.Need-known-version-requires
+known-version-requires c κs = search needs
 
 returns-2 : tie.Need-returns-2
 returns-2 c =
-    let b = c .before in
-    let i = b .before .before in
+    let k = c .before in
+    let i = k .before in
     let l = i .before in
     let a = l .before .before .args in
-    bad (a .plan) (a .bytes .now) (l .lawful .ensures) (i .if1 .left) (b .bad-ops .ensures) (c .if2 .taken)
+    unknown (a .plan) (a .version) (a .bytes .now) (l .lawful .ensures) (i .if1 .left) (k .known-version .ensures) (c .if2 .taken)
+
+bad-ops-requires : tie.Need-bad-ops-requires
+bad-ops-requires c κs =
+    let i = c .before .before .before in
+    let l = i .before in
+    let a = l .before .before .args in
+    formed (a .plan) (a .version) (a .bytes .now) (l .lawful .ensures) (i .if1 .left) .0 .1
+
+returns-3 : tie.Need-returns-3
+returns-3 c =
+    let b = c .before in
+    let j = b .before .before in
+    let k = j .before in
+    let i = k .before in
+    let l = i .before in
+    let a = l .before .before .args in
+    bad (a .plan) (a .version) (a .bytes .now) (l .lawful .ensures) (i .if1 .left) (k .known-version .ensures) (j .if2 .left) (b .bad-ops .ensures) (c .if3 .taken)
 
 slice-aggregate-put-block : tie.Need-slice-aggregate-put-block
 slice-aggregate-put-block c = search needs
 
 put-block-requires : tie.Need-put-block-requires
 put-block-requires c κs =
-    let j = c .before in
-    let b = j .before in
-    let i = b .before .before in
+    let m = c .before in
+    let b = m .before in
+    let j = b .before .before in
+    let k = j .before in
+    let i = k .before in
     let l = i .before in
     let a = l .before .before .args in
-    asks (a .plan) (a .bytes .now) (l .lawful .ensures) (i .if1 .left) (b .bad-ops .ensures) (j .if2 .left) refl
+    asks (a .plan) (a .version) (a .bytes .now) (l .lawful .ensures) (i .if1 .left) (k .known-version .ensures) (j .if2 .left) (b .bad-ops .ensures) (m .if3 .left) refl
 
-returns-3 : tie.Need-returns-3
-returns-3 c =
+returns-4 : tie.Need-returns-4
+returns-4 c =
     let p = c .before .before in
-    let j = p .before .before in
-    let b = j .before in
-    let i = b .before .before in
+    let m = p .before .before in
+    let b = m .before in
+    let j = b .before .before in
+    let k = j .before in
+    let i = k .before in
     let l = i .before in
     let a = l .before .before .args in
-    short (a .plan) (a .bytes .now) (l .lawful .ensures) (i .if1 .left) (b .bad-ops .ensures) (j .if2 .left) (p .put-block .ensures) (c .if3 .taken)
+    short (a .plan) (a .version) (a .bytes .now) (l .lawful .ensures) (i .if1 .left) (k .known-version .ensures) (j .if2 .left) (b .bad-ops .ensures) (m .if3 .left) (p .put-block .ensures) (c .if4 .taken)
 
 array-share-prefix-block : tie.Need-array-share-prefix-block
 array-share-prefix-block c = within (listed (c .before .before .before .put-block .ensures))
@@ -65,17 +83,19 @@ put-requires c κs = search needs
 same-length : tie.Need-same-length
 same-length c = search needs
 
-returns-4 : tie.Need-returns-4
-returns-4 c =
+returns-5 : tie.Need-returns-5
+returns-5 c =
     let q = c .before .before in
-    let k = q .before .before .before in
-    let p = k .before .before in
-    let j = p .before .before in
-    let b = j .before in
-    let i = b .before .before in
+    let n = q .before .before .before in
+    let p = n .before .before in
+    let m = p .before .before in
+    let b = m .before in
+    let j = b .before .before in
+    let k = j .before in
+    let i = k .before in
     let l = i .before in
     let a = l .before .before .args in
-    done (a .plan) (a .bytes .now) (l .lawful .ensures) (i .if1 .left) (b .bad-ops .ensures) (j .if2 .left) (p .put-block .ensures) (k .if3 .left) (q .put .ensures .0) (q .put .ensures .1)
+    done (a .plan) (a .version) (a .bytes .now) (l .lawful .ensures) (i .if1 .left) (k .known-version .ensures) (j .if2 .left) (b .bad-ops .ensures) (m .if3 .left) (p .put-block .ensures) (n .if4 .left) (q .put .ensures .0) (q .put .ensures .1)
 
 pub write-spec : {M : Type 1} → statement M
 write-spec =
@@ -83,13 +103,15 @@ write-spec =
     (tie.spec
     lawful-requires
     returns
-    bad-ops-requires
+    known-version-requires
     returns-2
+    bad-ops-requires
+    returns-3
     slice-aggregate-put-block
     put-block-requires
-    returns-3
+    returns-4
     array-share-prefix-block
     slice-aggregate-put
     put-requires
     same-length
-    returns-4)
+    returns-5)

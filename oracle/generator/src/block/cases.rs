@@ -1,10 +1,11 @@
 //! The blocks of a list: each byte and each field at its edges, and then blocks by chance.
 
-use super::{CurveAndG, FIELDS, Flag, Float, size};
+use super::{CurveAndG, FIELDS, Flag, Float, read, size};
 use crate::encodings::GREATEST_G;
+use crate::lists::{List, end_width};
 use crate::ops::Op;
 use crate::rng::Rng;
-use crate::writing::block;
+use crate::writing::{block, second as with_end};
 
 /// 01's block of 18 bytes.
 pub const LISTED: [u8; 18] = [
@@ -46,7 +47,7 @@ pub fn op(kind: usize) -> Op {
     op
 }
 
-/// The blocks that every list begins with.
+/// The blocks that the part of version 1 begins with.
 pub fn fixed() -> Vec<Vec<u8>> {
     let mut blocks = vec![LISTED.to_vec(), [&LISTED[..], &[0, 9, 1]].concat(), vec![]];
     for kind in 0..FIELDS.len() {
@@ -59,6 +60,96 @@ pub fn fixed() -> Vec<Vec<u8>> {
     blocks.extend(orders());
     blocks.extend(fields());
     blocks.extend(damaged(block(3, 10, &(0..10).map(op).collect::<Vec<_>>())));
+    blocks
+}
+
+/// The blocks that the part of version 2 begins with.
+pub fn second() -> Vec<Vec<u8>> {
+    let listed = with_end(&LISTED, 1);
+    let mut blocks = vec![listed.clone(), [&listed[..], &[0, 9, 1]].concat()];
+    blocks.extend(ends());
+    blocks.extend(second_heads(&listed));
+    let whole_heads = |bytes: &Vec<u8>| bytes.len() >= HEAD;
+    let first = counts().into_iter().chain(orders());
+    blocks.extend(first.filter(whole_heads).map(made_second));
+    blocks.extend(second_orders());
+    blocks.extend(damaged(listed));
+    blocks.extend(damaged(List::new(1, vec![op(1), op(2), op(7)]).block(2)));
+    blocks
+}
+
+/// A block of version 1 as one of version 2, with the end width that is true where its list can be read, and else 3.
+fn made_second(bytes: Vec<u8>) -> Vec<u8> {
+    let end = read(&bytes).map_or(3, |block| end_width(block.start, &block.ops));
+    with_end(&bytes, end)
+}
+
+/// Lists that go from width to width, that fail at the first op, at the last and between, with each end width.
+fn ends() -> Vec<Vec<u8>> {
+    let mut lists = vec![vec![]];
+    lists.extend((0..10).map(|kind| vec![op(kind)]));
+    lists.extend([
+        vec![op(1), op(2)],
+        vec![op(2), op(1)],
+        vec![op(2), op(7), op(4), op(9), op(1), op(3)],
+        vec![op(3), op(1), op(9), op(2)],
+        vec![op(1), op(1), op(2), op(9)],
+        vec![op(9), op(9), op(7), op(8)],
+        vec![vec![4, 8, 0, 1, 0, 0, 0, 0, 0]],
+        (0..32).map(|i| op(1 + i % 2)).collect(),
+        (0..31).map(|i| op(2 - i % 2)).collect(),
+    ]);
+    let mut blocks = Vec::new();
+    for ops in lists {
+        for start in [1, 3] {
+            let list = List::new(start, ops.clone());
+            blocks.extend([0, 1, 2, 3, 255].map(|end| list.clone().ending(end).block(2)));
+        }
+    }
+    blocks
+}
+
+/// Marks, versions, start widths, and the shortest blocks with and without the byte of the end width.
+fn second_heads(listed: &[u8]) -> Vec<Vec<u8>> {
+    let with = |at: usize, bytes: &[u8]| {
+        let mut block = listed.to_vec();
+        block[at..at + bytes.len()].copy_from_slice(bytes);
+        block
+    };
+    let versions = [
+        0, 1, 3, 4, 0x0102, 0x0200, 0x0201, 0x0202, 0x8002, 0xffff_u16,
+    ];
+    let mut blocks = vec![with(0, b"ctp"), with(0, b"CT\0")];
+    blocks.extend(versions.map(|version| with(3, &version.to_le_bytes())));
+    blocks.extend([0, 2, 3, 4, 255].map(|start| with(5, &[start])));
+    for (start, count) in [(1, 0), (3, 0), (3, 1), (0, 0), (2, 0), (1, 33), (2, 33)] {
+        for version in [1, 2, 3] {
+            let head = [b'C', b'T', b'P', version, 0, start, count];
+            blocks.push(head.to_vec());
+            blocks.extend([0, 1, 3].map(|end| [&head[..], &[end]].concat()));
+        }
+    }
+    blocks
+}
+
+/// A false end width and something else wrong: what is wrong with an op, or with the head, comes first.
+fn second_orders() -> Vec<Vec<u8>> {
+    let (clip, nan) = (op(9), vec![1, 0x7fc00000, 0]);
+    let mut blocks = Vec::new();
+    for end in [0, 1, 2, 3, 255] {
+        blocks.extend([
+            with_end(&block(1, 2, std::slice::from_ref(&clip)), end),
+            with_end(&block(1, 2, &[clip.clone(), nan.clone()]), end),
+            with_end(&block(1, 3, &[clip.clone(), nan.clone()]), end),
+            with_end(&[block(1, 1, &[]), vec![10]].concat(), end),
+            with_end(&block(1, 1, &[op(1)])[..15], end),
+            with_end(&block(2, 1, std::slice::from_ref(&clip)), end),
+            with_end(&block(1, 33, &vec![clip.clone(); 33]), end),
+            // the count is less than the ops that follow, of which the end width is that of all or of none
+            with_end(&block(1, 1, &[clip.clone(), op(1)]), end),
+            with_end(&block(1, 0, &[op(1)]), end),
+        ]);
+    }
     blocks
 }
 
@@ -178,6 +269,21 @@ fn damaged(block: Vec<u8>) -> Vec<Vec<u8>> {
 
 /// A good block with any bytes after it, and mostly damaged.
 pub fn random(rng: &mut Rng) -> Vec<u8> {
+    let list = any_list(rng);
+    damaged_somewhere(rng, list.block(1), HEAD)
+}
+
+/// The same in version 2, some with an end width that is false.
+pub fn random_second(rng: &mut Rng) -> Vec<u8> {
+    let mut list = any_list(rng);
+    if rng.one_in(6) {
+        let any = rng.next() as u8;
+        list = list.ending(rng.pick(&[0, 1, 2, 3, any]));
+    }
+    damaged_somewhere(rng, list.block(2), HEAD + 1)
+}
+
+fn any_list(rng: &mut Rng) -> List {
     let longest = rng.pick(&[2, 4, 8, 32]);
     let ops: Vec<Op> = (0..rng.below(longest + 1))
         .map(|_| {
@@ -185,7 +291,11 @@ pub fn random(rng: &mut Rng) -> Vec<u8> {
             rng.op(kind)
         })
         .collect();
-    let mut bytes = block(rng.pick(&[1, 3]), ops.len(), &ops);
+    List::new(rng.pick(&[1, 3]), ops)
+}
+
+/// The block, which has so many bytes before its ops, with bytes after it, and mostly with a byte changed, put in or taken out, or cut.
+fn damaged_somewhere(rng: &mut Rng, mut bytes: Vec<u8>, head: usize) -> Vec<u8> {
     bytes.extend((0..rng.pick(&[0, 0, 1, 7, 40])).map(|_| rng.next() as u8));
     let at = rng.below(bytes.len() as u64) as usize;
     match rng.below(8) {
@@ -193,8 +303,8 @@ pub fn random(rng: &mut Rng) -> Vec<u8> {
         1 => bytes[at] = rng.next() as u8,
         2 => bytes[at] ^= 1 << rng.below(8),
         3 => bytes[HEAD - 1] = rng.below(34) as u8,
-        4 => bytes.insert(at.max(HEAD), rng.next() as u8),
-        5 if at >= HEAD => drop(bytes.remove(at)),
+        4 => bytes.insert(at.max(head), rng.next() as u8),
+        5 if at >= head => drop(bytes.remove(at)),
         _ => {}
     }
     bytes

@@ -15,7 +15,7 @@ returns c = rw (← c .before .lawful .ensures, not-true (c .before .lawful .res
 
 check-ops-requires : tie.Need-check-ops-requires
 check-ops-requires c κs =
-    lawful-exactly (c .before .before .before .args .plan) .0 (sym (c .before .before .lawful .ensures) ∙ not-false _ (c .before .if1 .left)) .1
+    lawful-exactly (c .before .before .before .args .plan) .0 (sym (c .before .before .lawful .ensures) ∙ not-false _ (c .before .if1 .left)) .0 .1
 
 returns-2 : tie.Need-returns-2
 returns-2 c = rw (← c .before .before .before .lawful .ensures, not-false (c .before .before .before .lawful .result) (c .before .before .if1 .left)) (c .check-ops .ensures)

@@ -6,10 +6,10 @@ use Rattle.record.proofs.ops.ops_at.Statement.{statement}
 use Rattle.record.proofs.ops.ops_at.Tie as tie
 
 abbrev Inv-loop : tie.InvT-loop
-Inv-loop line k start count list₀ at₀ i₀ list at i = (i ≤ count) × (at ≤ k + 19 * i)
+Inv-loop line k start end count list₀ at₀ i₀ list at i = (i ≤ count) × (at ≤ k + 19 * i)
 
 abbrev μ-loop : tie.MeasureT-loop
-μ-loop line k start count list₀ at₀ i₀ list at i = count - i
+μ-loop line k start end count list₀ at₀ i₀ list at i = count - i
 
 empty-requires : tie.Need-empty-requires Inv-loop μ-loop
 empty-requires c κs = search needs
