@@ -6,7 +6,7 @@ use mathlib.Core.Logic.{_⊎_, _↔_, ⊎-elim}
 use native.Mathlib.Omega.{arith}
 use Rattle.notation.specs.Answers.{answer}
 use Rattle.list.specs.Answer.{paper}
-use Rattle.list.specs.Check.{checkFrom, checkOf}
+use Rattle.list.specs.Check.{checkOf}
 use Rattle.list.specs.Ends.{endFrom}
 use Rattle.list.specs.Fits.{Fits, FailsAt}
 use Rattle.list.specs.Lists.{opsOf, Formed, True, Lawful}

@@ -5,7 +5,6 @@ use mathlib.Core.Path.{_≡_, refl, ap, sym, _∙_}
 use mathlib.Core.Bool.{Bool, true, false}
 use mathlib.Core.List.{List, [], _∷_, _++_, append-nil}
 use native.Mathlib.Omega.{arith}
-use lib.ListN.{length}
 use Rattle.ciexyz.specs.declared.Mat3.{Mat3}
 use Rattle.list.specs.Lists.{opsOf, planOf, lawful}
 use Rattle.op.specs.declared.Op.{Op}

@@ -1,6 +1,6 @@
 -- A fraction that is held within 0 to 255 before it is rounded has the same byte: only the rule for halves above zero can be seen in a byte.
 -- What is nearest the held fraction is the nearest number held, in each of the three places where that may lie.
-use Prim.Native.Nat.{ℕ, _+_, _-_, _*_, _/_, _≤_, _<_, min}
+use Prim.Native.Nat.{ℕ, _+_, _-_, _*_, _≤_, _<_, min}
 use mathlib.Core.Path.{_≡_, ap, sym, _∙_}
 use mathlib.Core.Logic.{_⊎_, inl, inr}
 use native.Mathlib.Nat.{eq-zero-or-pos, mul-le-mul-left}

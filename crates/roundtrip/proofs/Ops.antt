@@ -8,6 +8,8 @@ use native.Mathlib.Omega.{arith}
 use lib.ListN.{length, take, drop, length-append, length-take}
 use lib.Seq.{take-at, drop-at, take-add, take-take}
 use Rattle.notation.proofs.Tests.{fails-exactly}
+use Rattle.notation.specs.Several.{any}
+use Rattle.notation.proofs.Several.{neither}
 use Rattle.op.specs.declared.Op.{Op}
 use Rattle.parts.specs.Layouts.{Field, layoutOf}
 use Rattle.parts.specs.Parts.{kindOf, valuesOf, opBy, fieldOf}
@@ -18,9 +20,8 @@ use Rattle.block.specs.Refusals.{Unreadable, bad-field, Stands, stands, AllStan
 use Rattle.block.proofs.Badness.{bad-exactly}
 use Rattle.block.proofs.Ways.{met-first, met-later}
 use Rattle.writer.specs.Bytes.{valueBytes, joined, opBytes, opsSize}
-use Rattle.writer.specs.Writing.{any, badOp}
+use Rattle.writer.specs.Writing.{badOp}
 use Rattle.writer.proofs.Lengths.{payload-is}
-use Rattle.writer.proofs.Walking.{neither}
 use Rattle.roundtrip.specs.Typed.{All, OpHeld, AreBytes}
 use Rattle.roundtrip.proofs.Values.{values-read, values-bad, values-shape, values-written, values-good, bytes-drop}
 

@@ -13,6 +13,7 @@ use Rattle.notation.specs.Choice.{if_then_else_}
 use Rattle.notation.specs.Text.{ascii}
 use Rattle.notation.specs.Answers.{answer}
 use Rattle.notation.proofs.Tests.{fails-exactly}
+use Rattle.notation.specs.Several.{any}
 use Rattle.op.specs.declared.Op.{Op}
 use Rattle.list.specs.Lists.{planOf, endOf}
 use Rattle.list.proofs.Building.{ops-of}
@@ -27,7 +28,7 @@ use Rattle.block.proofs.Lawfulness.{lawful}
 use Rattle.block.proofs.Versions.{eight, truly-told}
 use Rattle.block.proofs.Ways.{all-fit}
 use Rattle.writer.specs.Bytes.{u16Bytes, joined, opBytes, endBytes, headBytes, blockOf}
-use Rattle.writer.specs.Writing.{any, badOp, badList, writingOf, leftBy, leftOf}
+use Rattle.writer.specs.Writing.{badOp, badList, writingOf, leftBy, leftOf}
 use Rattle.writer.specs.declared.Writing.{Writing}
 use Rattle.writer.specs.declared.Writing.the-variants.{Done}
 use Rattle.writer.proofs.Badness.{bad-exactly}

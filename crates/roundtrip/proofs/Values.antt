@@ -11,6 +11,8 @@ use lib.Ieee.{Float, binary32, ofBits, toBits, fits, isNan}
 use lib.Ieee.Bits.{ofBits-toBits, toBits-ofBits, toBits-lt}
 use lib.ListN.{length, take, drop, length-drop}
 use lib.Seq.{drop-at, take-add, getD-drop}
+use Rattle.notation.specs.Several.{any}
+use Rattle.notation.proofs.Several.{neither}
 use Rattle.op.specs.declared.Curve.{Curve}
 use Rattle.op.specs.declared.Curve.the-variants as C
 use Rattle.parts.specs.Layouts.{Field, float, flag, curve}
@@ -22,9 +24,8 @@ use Rattle.parts.proofs.Numbers.{curve-back, number-back, gamma-back}
 use Rattle.block.specs.Fields.{sizeOf, bytesOf, byteAt, u32At, firstFloat, valueIn, valuesIn}
 use Rattle.block.specs.BadFields.{badCurve, isBad, anyBad}
 use Rattle.writer.specs.Bytes.{u32Bytes, valueBytes, joined}
-use Rattle.writer.specs.Writing.{badValue, any}
+use Rattle.writer.specs.Writing.{badValue}
 use Rattle.writer.proofs.Lengths.{value-size}
-use Rattle.writer.proofs.Walking.{neither}
 use Rattle.roundtrip.specs.Typed.{Held, All, AreBytes}
 use Rattle.roundtrip.proofs.Words.{u32-back, u32-bytes, u32-less}
 

@@ -1,5 +1,6 @@
 -- When two lists are the same: start width, count, end width and the ops below the count agree; slots past the count are "not compared
--- when lists are called the same" (01, Refusal numbers). An end width that is true follows from the rest, and a false one is not hidden. Ops agree where their kind and their values do.
+-- when lists are called the same" (01, Refusal numbers). An end width that is true follows from the rest, and a false one is not hidden.
+-- Ops agree where their kind and their values do.
 use mathlib.Core.Bool.{Bool, true, false, _&&_, Bool·beq}
 use mathlib.Core.List.{List, [], _∷_}
 use lib.Dec.{eqb}

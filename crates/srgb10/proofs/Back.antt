@@ -3,10 +3,10 @@
 use mathlib.Core.Path.{_≡_, subst, sym}
 use mathlib.Core.Bool.{Bool}
 use mathlib.Core.Logic.{_↔_, _⊎_, inl, inr}
-use Prim.Native.Nat.{ℕ, zero, suc, zero-le, _+_, _-_, _*_, _≤_, _<_}
+use Prim.Native.Nat.{ℕ, zero, suc, zero-le, _+_, _*_, _≤_, _<_}
 use native.Mathlib.Nat.{eq-or-lt-of-le}
 use native.Mathlib.Omega.{arith}
-use lib.Dec.{T, le→leb, leb, leb→le}
+use lib.Dec.{T, le→leb, leb→le}
 use lib.Ieee.Fits.{and-i, and-l, and-r}
 use Rattle.notation.proofs.First.{first-found}
 use Rattle.srgb10.specs.Codes.{Nearest, apart, codeOf, every, levelOf, noneNearer}

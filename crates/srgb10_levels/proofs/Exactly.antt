@@ -13,10 +13,11 @@ use lib.ListN.{length}
 use Rattle.notation.specs.Answers.{answer}
 use Rattle.notation.specs.Choice.{if_then_else_}
 use Rattle.notation.specs.Order.{none, this, later}
+use Rattle.notation.specs.Several.{any, Some}
 use Rattle.notation.specs.declared.Answer.{Answer}
 use Rattle.notation.proofs.Order.{caused, one-given, passed}
 use Rattle.notation.proofs.Tests.{fails-exactly}
-use Rattle.srgb10_levels.specs.Levelling.{anyAbove, asMany, leftBy, leftOf, levellingOf, paper}
+use Rattle.srgb10_levels.specs.Levelling.{isAbove, asMany, leftBy, leftOf, levellingOf, paper}
 use Rattle.srgb10_levels.specs.Refusals.{Above, Given}
 use Rattle.srgb10_levels.specs.declared.Levelling.{Levelling}
 use Rattle.srgb10_levels.specs.declared.Levelling.the-variants.{Done, Unequal, NoCode}
@@ -49,9 +50,9 @@ module _ (codes : List ℕ) (levels : List Float) where
   not-unequal e n = n e
 
   given : Given codes levels (levellingOf codes levels)
-  given = by (asMany codes levels) (anyAbove codes) refl refl
+  given = by (asMany codes levels) (any isAbove codes) refl refl
     where
-      by : (m a : Bool) → asMany codes levels ≡ m → anyAbove codes ≡ a → Given codes levels (if not m then Unequal else if a then NoCode else Done)
+      by : (m a : Bool) → asMany codes levels ≡ m → any isAbove codes ≡ a → Given codes levels (if not m then Unequal else if a then NoCode else Done)
       by false a e f = this (fails-exactly many-exactly .0 e)
       by true true e f = later (not-unequal (many-exactly .0 e)) (this (above-exactly codes .0 f))
       by true false e f = later (not-unequal (many-exactly .0 e)) (later (fails-exactly (above-exactly codes) .0 f) none)
@@ -71,14 +72,14 @@ module _ (codes : List ℕ) (levels : List Float) where
   four-exactly = (λ e. caused (exactly Unequal .0 e) (other Done Unequal (omega arith)), λ n. exactly Unequal .1 (this n))
 
   -- 14 exactly when they are equal, and a code is above 1023
-  pub fourteen-exactly : (paper (levellingOf codes levels) ≡ answer 14 0 0) ↔ ((length codes ≡ length levels) × Above codes)
+  pub fourteen-exactly : (paper (levellingOf codes levels) ≡ answer 14 0 0) ↔ ((length codes ≡ length levels) × Some Above codes)
   fourteen-exactly = (
     λ e. let g = exactly NoCode .0 e in (equal (passed g (other Unequal NoCode (omega arith)) .0), caused g (other Done NoCode (omega arith))),
     λ h. exactly NoCode .1 (later (not-unequal (h .0)) (this (h .1))),
   )
 
   -- 0 otherwise
-  pub zero-exactly : (paper (levellingOf codes levels) ≡ answer 0 0 0) ↔ ((length codes ≡ length levels) × (¬ Above codes))
+  pub zero-exactly : (paper (levellingOf codes levels) ≡ answer 0 0 0) ↔ ((length codes ≡ length levels) × (¬ Some Above codes))
   zero-exactly = (
     λ e. let h = passed (exactly Done .0 e) (other Unequal Done (omega arith)) in (equal (h .0), passed (h .1) (other NoCode Done (omega arith)) .0),
     λ h. exactly Done .1 (later (not-unequal (h .0)) (later (h .1) none)),

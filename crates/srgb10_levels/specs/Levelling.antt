@@ -1,12 +1,13 @@
 -- "A channel entry turns a lent slice of codes into f32 levels divided by 65535. Refusals: in order 4, then 14 for a code above 1023, nothing written"
 -- (02, W9). Definitions only.
 use Prim.Native.Nat.{ℕ}
-use mathlib.Core.Bool.{Bool, false, not, _||_}
-use mathlib.Core.List.{List, [], _∷_, map}
+use mathlib.Core.Bool.{Bool, not}
+use mathlib.Core.List.{List, map}
 use lib.Dec.{eqb, ltb}
 use lib.Ieee.{Float}
 use lib.ListN.{length}
 use Rattle.notation.specs.Choice.{if_then_else_}
+use Rattle.notation.specs.Several.{any}
 use Rattle.notation.specs.Answers.{answer}
 use Rattle.notation.specs.declared.Answer.{Answer}
 use Rattle.srgb10_levels.specs.Levels.{dividedLevel}
@@ -23,14 +24,13 @@ paper NoCode = answer 14 0 0
 abbrev pub asMany : List ℕ → List Float → Bool
 asMany codes levels = eqb (length codes) (length levels)
 
--- whether one of the codes is above 1023
-unfoldable pub anyAbove : List ℕ → Bool
-anyAbove [] = false
-anyAbove (c ∷ cs) = ltb 1023 c || anyAbove cs
+-- "a code above 1023"
+abbrev pub isAbove : ℕ → Bool
+isAbove c = ltb 1023 c
 
 -- "in order 4, then 14"
 abbrev pub levellingOf : List ℕ → List Float → Levelling
-levellingOf codes levels = if not (asMany codes levels) then Unequal else if anyAbove codes then NoCode else Done
+levellingOf codes levels = if not (asMany codes levels) then Unequal else if any isAbove codes then NoCode else Done
 
 -- what the lent slice holds after it: the level of each code, and after a refusal what it held, "nothing written"
 abbrev pub leftBy : Levelling → List ℕ → List Float → List Float

@@ -3,22 +3,21 @@ use Prim.Native.Nat.{ℕ, _<_}
 use mathlib.Core.Path.{_≡_}
 use mathlib.Core.List.{List, [], _∷_}
 use lib.Ieee.{Float}
-use lib.ListN.{length, getD}
+use lib.ListN.{length}
 use Rattle.notation.specs.Order.{FirstOf}
+use Rattle.notation.specs.Several.{Some}
 use Rattle.srgb10_levels.specs.declared.Levelling.{Levelling}
 use Rattle.srgb10_levels.specs.declared.Levelling.the-variants.{Done, Unequal, NoCode}
 
--- at some place stands a code above 1023
-pub record Above (codes : List ℕ) : Type 0 where
-  pub place : ℕ
-  pub inside : place < length codes
-  pub above : 1023 < getD codes place 0
+-- "a code above 1023"
+abbrev pub Above : ℕ → Type 0
+Above c = 1023 < c
 
 -- what each refusal is given for
 abbrev pub Cause : List ℕ → List Float → Levelling → Type 0
 Cause codes levels Done = Unit {0}
 Cause codes levels Unequal = ¬ (length codes ≡ length levels)
-Cause codes levels NoCode = Above codes
+Cause codes levels NoCode = Some Above codes
 
 -- "in order 4, then 14"
 abbrev pub order : List Levelling

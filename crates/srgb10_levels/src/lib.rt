@@ -4,8 +4,9 @@ ghost use mathlib.Core.Bool.{false};
 ghost use mathlib.Core.List.{map};
 ghost use Prim.Native.Nat.{_≤_};
 ghost use lib.ListN.{length};
+ghost use Rattle.notation.specs.Several.{any};
 ghost use Rattle.srgb10.specs.Curve.{Whole};
-ghost use Rattle.srgb10_levels.specs.Levelling.{anyAbove, leftOf, levellingOf, paper};
+ghost use Rattle.srgb10_levels.specs.Levelling.{isAbove, leftOf, levellingOf, paper};
 ghost use Rattle.srgb10_levels.specs.Levels.{dividedLevel};
 use notation::Answer;
 
@@ -42,7 +43,7 @@ pub fn paper(levelling: Levelling) -> Answer
 }
 
 fn any_above(codes: &[u16]) -> bool
-    ensures { λ r. ⌜ r ≡ anyAbove (now (codes .entry)) ⌝ }
+    ensures { λ r. ⌜ r ≡ any isAbove (now (codes .entry)) ⌝ }
 {
     let mut i: usize = 0;
     while i < codes.len() {
@@ -65,7 +66,7 @@ fn divided_level(table: &[u16; 1024], code: u16) -> f32
 // The table is taken once: it is built anew wherever it is named.
 fn each_level(codes: &[u16], levels: &mut [f32])
     requires { ⌜ length (now codes) ≡ length (now levels) ⌝ }
-    requires { ⌜ anyAbove (now codes) ≡ false ⌝ }
+    requires { ⌜ any isAbove (now codes) ≡ false ⌝ }
     ensures { λ _. ⌜ now (levels .exit) ≡ map dividedLevel (now (codes .entry)) ⌝ }
 {
     let table = srgb10::entries();

@@ -1,20 +1,16 @@
 -- A loop over the elements below a count: a search among them, and their bytes put one behind the other.
 -- What is left from here begins with the next element: one law for the values of an op and for the ops of a list.
 use Prim.Native.Nat.{ℕ, _+_, _≤_, _<_}
-use mathlib.Core.Path.{_≡_, refl, ap, sym, _∙_}
-use mathlib.Core.Bool.{Bool, true, false, _||_, true≢false}
+use mathlib.Core.Path.{_≡_, ap, sym, _∙_}
+use mathlib.Core.Bool.{Bool, true, false, _||_}
 use mathlib.Core.List.{List, [], _++_, map}
 use lib.ListN.{length, take, drop, getD}
+use Rattle.notation.specs.Several.{any}
+use Rattle.notation.proofs.Several.{neither}
 use Rattle.parts.proofs.Below.{next-below, none-below}
 use Rattle.buffer.specs.Buffer.{Room, Put}
 use Rattle.buffer.proofs.Putting as P
 use Rattle.writer.specs.Bytes.{joined}
-use Rattle.writer.specs.Writing.{any}
-
--- neither of two tests
-pub neither : (a b : Bool) → (a || b) ≡ false → (a ≡ false) × (b ≡ false)
-neither true b e = absurd (true≢false e)
-neither false b e = (refl, e)
 
 module _ {A B : Type 0} (f : A → B) (n : ℕ) (l : List A) where
   abbrev pub below : List B

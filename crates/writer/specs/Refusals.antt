@@ -5,6 +5,7 @@ use mathlib.Core.List.{List, [], _∷_}
 use lib.Ieee.{Float, nan}
 use lib.ListN.{length}
 use Rattle.notation.specs.Order.{FirstOf}
+use Rattle.notation.specs.Several.{Some}
 use Rattle.op.specs.declared.Curve.{Curve}
 use Rattle.op.specs.declared.Op.{Op}
 use Rattle.parts.specs.Curves.{gammaOf}
@@ -22,11 +23,6 @@ use Rattle.writer.specs.declared.Writing.the-variants.{Done, Malformed, 
 pub data Bad : Value → Type 0 where
   not-a-number : {x : Float} → x ≡ nan → Bad (the-float x)
   g-out-of-range : {c : Curve} → 16_777_215 < gammaOf c → Bad (the-curve c)
-
--- one of several is such
-pub data Some {A : Type 0} (Such : A → Type 0) : List A → Type 0 where
-  this : {x : A} {xs : List A} → Such x → Some Such (x ∷ xs)
-  later : {x : A} {xs : List A} → Some Such xs → Some Such (x ∷ xs)
 
 abbrev pub BadOp : Op → Type 0
 BadOp o = Some Bad (valuesOf o)

@@ -2,12 +2,13 @@
 -- buffer too short; each gives length 0 and leaves the buffer untouched." (02, W3). "The writer writes the version asked for"; "writing any
 -- other version 8, tested after 10". (02, W8). Definitions only.
 use Prim.Native.Nat.{ℕ}
-use mathlib.Core.Bool.{Bool, false, not, _||_}
-use mathlib.Core.List.{List, [], _∷_, _++_}
+use mathlib.Core.Bool.{Bool, false, not}
+use mathlib.Core.List.{List, _++_}
 use lib.Dec.{ltb}
 use lib.Ieee.{isNan}
 use lib.ListN.{length, drop}
 use Rattle.notation.specs.Choice.{if_then_else_}
+use Rattle.notation.specs.Several.{any}
 use Rattle.notation.specs.Answers.{answer}
 use Rattle.notation.specs.declared.Answer.{Answer}
 use Rattle.op.specs.declared.Op.{Op}
@@ -43,11 +44,6 @@ abbrev pub badValue : Value → Bool
 badValue (the-float x) = isNan x
 badValue (the-flag on) = false
 badValue (the-curve c) = ltb 16_777_215 (gammaOf c)
-
--- whether one of several is such
-abbrev pub any : {A : Type 0} → (A → Bool) → List A → Bool
-any such [] = false
-any such (x ∷ xs) = such x || any such xs
 
 abbrev pub badOp : Op → Bool
 badOp o = any badValue (valuesOf o)

@@ -2,9 +2,8 @@
 -- operation." (01, Samples). "red 1.5748, blue 1.8556, green from 0.0722 * 1.8556 / 0.7152 and 0.2126 * 1.5748 / 0.7152"; "The float entry uses the
 -- same order of operations with the new constants." (02, W7). So it is said once, by the weights. Definitions only.
 use Prim.Native.Nat.{ℕ}
-use lib.IntN.{pos}
-use lib.Ieee.{Float, binary32, neg, ofInt}
-use Rattle.notation.specs.F32.{_+f_, _*f_, _/f_, bits}
+use lib.Ieee.{Float, neg}
+use Rattle.notation.specs.F32.{_+f_, _*f_, _/f_, bits, asF32}
 use Rattle.fused.specs.Fused.{fused}
 use Rattle.channels.specs.Channels.{vec}
 use Rattle.ciexyz.specs.declared.Vec3.{Vec3}
@@ -21,7 +20,7 @@ full = bits 0x437f_0000
 
 -- so many of the whole, as the f32 nearest that fraction: 299 of 1000 is 0.299
 unfoldable pub part : ℕ → ℕ → Float
-part n whole = ofInt binary32 (pos n) /f ofInt binary32 (pos whole)
+part n whole = asF32 n /f asF32 whole
 
 -- the weights: 0.299, 0.587, 0.114, or 0.2126, 0.7152, 0.0722
 abbrev pub redWeight : Weights → Float

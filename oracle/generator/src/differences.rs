@@ -1,7 +1,7 @@
 //! The facts of docs/DIFFERENCES.md: what the given Rust does where we answer otherwise. Each case is run.
 
 use crate::encodings::{DEFAULT_OPSIN, Settings};
-use crate::ops::{Op, list};
+use crate::ops::{NAMES, Op, list};
 use given::door::{curve, noted, word};
 use given::{
     ColorEncodingWithProfile, ColorTransform, ColourSpace, Customxy, EnumColourEncoding, NullCms,
@@ -78,19 +78,7 @@ fn plan(from: EnumColourEncoding, to: EnumColourEncoding, s: Settings) -> ColorT
 /// The start width and the names of the ops.
 fn told(plan: &ColorTransform) -> String {
     let print = format!("{plan:?}");
-    let names = [
-        "XybToMixedLms",
-        "LumaToXyz",
-        "XyzToLuma",
-        "Matrix",
-        "TransferFunction",
-        "HlgInverseOotf",
-        "ToneMapRec2408",
-        "ToneMapLumaRec2408",
-        "GamutMap",
-        "Clip",
-    ];
-    let kinds = kinds(plan).into_iter().map(|kind| names[kind as usize]);
+    let kinds = kinds(plan).into_iter().map(|kind| NAMES[kind as usize]);
     let kinds: Vec<_> = kinds.collect();
     assert!(kinds.iter().all(|name| print.contains(name)));
     format!("start {}, [{}]", plan.input_channels(), kinds.join(", "))

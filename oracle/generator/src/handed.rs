@@ -3,25 +3,11 @@
 
 use crate::block::cases::op;
 use crate::lists::{List, checked, well_formed};
-use crate::ops::Op;
+use crate::ops::{NAMES, Op};
 use crate::record::{Kind, LONGEST, Record};
 use crate::rng::Rng;
 use crate::writing::{self, write_into};
 use std::io::Write;
-
-/// The ops' names, by their kinds.
-const NAMES: [&str; 10] = [
-    "XybToMixedLms",
-    "LumaToXyz",
-    "XyzToLuma",
-    "Matrix",
-    "TransferFunction",
-    "HlgInverseOotf",
-    "ToneMapRec2408",
-    "ToneMapLumaRec2408",
-    "GamutMap",
-    "Clip",
-];
 
 /// Number, position and width.
 type Answer = [u32; 3];

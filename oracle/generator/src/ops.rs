@@ -8,6 +8,20 @@ use given::door::word;
 /// An op as 01's plan block has it: a kind and its fields.
 pub type Op = Vec<u32>;
 
+/// The ops' names, by their kinds.
+pub const NAMES: [&str; 10] = [
+    "XybToMixedLms",
+    "LumaToXyz",
+    "XyzToLuma",
+    "Matrix",
+    "TransferFunction",
+    "HlgInverseOotf",
+    "ToneMapRec2408",
+    "ToneMapLumaRec2408",
+    "GamutMap",
+    "Clip",
+];
+
 /// The Rust's list of these ops.
 pub fn list(start: usize, ops: &[Op]) -> ColorTransform {
     let list = ColorTransform::from_words(start, ops.len(), &ops.concat());

@@ -3,7 +3,6 @@
 use mathlib.Core.Path.{ap, _∙_}
 use Rattle.notation.specs.declared.Answer.{Answer}
 use Rattle.firmware.specs.Conversion.{paper}
-use lib.ListN.{length}
 use borrow.Author.Needs.{needs}
 use Rattle.c_api.proofs.rindsaddle_ycbcr_bytes.Statement.{statement}
 use Rattle.c_api.proofs.rindsaddle_ycbcr_bytes.Tie as tie

@@ -4,13 +4,14 @@ use mathlib.Core.Path.{refl, sym, _∙_, _≡_}
 use Prim.Native.Nat.{_-_, _≤_}
 use native.Mathlib.Omega.{arith}
 use lib.ListN.{drop, length}
-use Rattle.srgb10_levels.specs.Levelling.{anyAbove}
+use Rattle.notation.specs.Several.{any}
+use Rattle.srgb10_levels.specs.Levelling.{isAbove}
 use Rattle.srgb10_levels.proofs.Codes.{no-more, not-above, one-above}
 use Rattle.srgb10_levels.proofs.any_above.Statement.{statement}
 use Rattle.srgb10_levels.proofs.any_above.Tie as tie
 
 abbrev Inv-loop : tie.InvT-loop
-Inv-loop codes i₀ i = (i ≤ length codes) × (anyAbove (drop i codes) ≡ anyAbove codes)
+Inv-loop codes i₀ i = (i ≤ length codes) × (any isAbove (drop i codes) ≡ any isAbove codes)
 
 abbrev μ-loop : tie.MeasureT-loop
 μ-loop codes i₀ i = length codes - i

@@ -4,7 +4,8 @@ use mathlib.Core.Path.{sym, _∙_, _≡_}
 use mathlib.Core.Bool.{false, true}
 use borrow.Author.Needs.{needs}
 use borrow.Author.Tests.{eq-eqb, ne-eqb}
-use Rattle.srgb10_levels.specs.Levelling.{anyAbove}
+use Rattle.notation.specs.Several.{any}
+use Rattle.srgb10_levels.specs.Levelling.{isAbove}
 use Rattle.srgb10_levels.proofs.code_levels.Statement.{statement}
 use Rattle.srgb10_levels.proofs.code_levels.Tie as tie
 
@@ -17,7 +18,7 @@ any-above-requires c κs = search needs
 returns-2 : tie.Need-returns-2
 returns-2 c =
     let e = eq-eqb _ _ (c .before .before .if1 .left) in
-    let a : anyAbove (c .before .before .before .before .before .args .codes .now) ≡ true = sym (c .before .any-above .ensures) ∙ c .if2 .taken in
+    let a : any isAbove (c .before .before .before .before .before .args .codes .now) ≡ true = sym (c .before .any-above .ensures) ∙ c .if2 .taken in
     (rw (e, a), rw (e, a))
 
 each-level-requires : tie.Need-each-level-requires
@@ -33,7 +34,7 @@ returns-3 c =
     let d = c .before .before in
     let t = d .before .before in
     let e = eq-eqb _ _ (t .before .before .if1 .left) in
-    let a : anyAbove (t .before .before .before .before .before .args .codes .now) ≡ false = sym (t .before .any-above .ensures) ∙ t .if2 .left in
+    let a : any isAbove (t .before .before .before .before .before .args .codes .now) ≡ false = sym (t .before .any-above .ensures) ∙ t .if2 .left in
     (rw (e, a), rw (e, a) (d .each-level .ensures))
 
 pub code-levels-spec : {M : Type 1} → statement M

@@ -3,9 +3,9 @@
 use mathlib.Core.Path.{refl, _≡_}
 use borrow.Author.Needs.{needs}
 use lib.Ieee.{ofBits, ofInt}
-use Rattle.notation.specs.F32.{bits}
+use Rattle.notation.specs.F32.{bits, asF32}
 use Rattle.srgb10.proofs.Levels.{entry-is}
-use Rattle.srgb10_levels.specs.Levels.{asF32, dividedLevel}
+use Rattle.srgb10_levels.specs.Levels.{dividedLevel}
 use Rattle.srgb10_levels.proofs.divided_level.Statement.{statement}
 use Rattle.srgb10_levels.proofs.divided_level.Tie as tie
 

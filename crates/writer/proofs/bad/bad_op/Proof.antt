@@ -2,7 +2,8 @@
 -- The values in the cells are those of the op.
 use mathlib.Core.Path.{ap}
 use borrow.Author.Needs.{needs}
-use Rattle.writer.specs.Writing.{any, badValue}
+use Rattle.notation.specs.Several.{any}
+use Rattle.writer.specs.Writing.{badValue}
 use Rattle.writer.proofs.Cells.{values-in, few-values}
 use Rattle.writer.proofs.bad.bad_op.Statement.{statement}
 use Rattle.writer.proofs.bad.bad_op.Tie as tie

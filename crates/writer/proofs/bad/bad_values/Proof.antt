@@ -5,8 +5,9 @@ use mathlib.Core.Path.{_≡_, refl}
 use native.Mathlib.Omega.{arith}
 use borrow.Author.Needs.{needs}
 use lib.ListN.{length, drop}
+use Rattle.notation.specs.Several.{any}
 use Rattle.parts.specs.Parts.{valueOf}
-use Rattle.writer.specs.Writing.{any, badValue}
+use Rattle.writer.specs.Writing.{badValue}
 use Rattle.writer.proofs.Walking.{below, found, goes-on, not-found}
 use Rattle.writer.proofs.bad.bad_values.Statement.{statement}
 use Rattle.writer.proofs.bad.bad_values.Tie as tie

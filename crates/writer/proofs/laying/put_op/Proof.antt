@@ -6,13 +6,14 @@ use mathlib.Core.Bool.{false}
 use mathlib.Core.List.{List, [], _∷_, map}
 use borrow.Author.Needs.{needs}
 use lib.ListN.{take}
+use Rattle.notation.specs.Several.{any}
 use Rattle.op.specs.declared.Op.{Op}
 use Rattle.parts.specs.Parts.{kindOf, valuesOf, partsOf, valueOf}
 use Rattle.parts.specs.declared.Parts.{Parts}
 use Rattle.buffer.specs.Buffer.{Room, Put}
 use Rattle.buffer.proofs.Putting.{rest, both}
 use Rattle.writer.specs.Bytes.{joined, valueBytes, opBytes}
-use Rattle.writer.specs.Writing.{any, badValue, badOp}
+use Rattle.writer.specs.Writing.{badValue, badOp}
 use Rattle.writer.proofs.Cells.{values-in, few-values}
 use Rattle.writer.proofs.laying.put_op.Statement.{statement}
 use Rattle.writer.proofs.laying.put_op.Tie as tie
