@@ -42,7 +42,7 @@ use Rattle.stages.specs.Stages.{luminancesOf, ownLuminances, hdrParams, decodeF
 use Rattle.stages.proofs.Length.{at-most-ten}
 use Rattle.planner.specs.Planning as Planner
 use Rattle.planner.specs.declared.Planned.{Planned}
-use Rattle.planner.proofs.Sorting.{Sorted, outside, same, lacking, made}
+use Rattle.planner.proofs.Sorting.{Sorted, outside, unlabelled, same, lacking, made}
 use Rattle.planner.proofs.Building.{wide, one-or-three, merged}
 use Rattle.exceptions.specs.Exceptions.{greyHlg, greyPerceptual, moves, exception}
 use Rattle.exceptions.proofs.Verdicts.{unless, go-on, curve-verdict, target-curve, convert-verdict, tone-verdict, hlg-verdict, ootf-or-curve, either-fails}
@@ -184,6 +184,7 @@ refused e d = absurd (d (ap (λ (a : Answer). a .number) e))
 pub done-lawful : (s t : EnumColourEncoding) (settings : Settings) {p : Planned} → Sorted s t settings p → Planner.paper (p .answer) ≡ answer 0 0 0 → Lawful (p .plan)
 done-lawful s t settings (outside o) n = refused n (omega arith)
 done-lawful s t settings (same i e) n = ((one-or-three s, omega arith), plan-true (channelsOf s) [])
+done-lawful s t settings (unlabelled i u) n = refused n (omega arith)
 done-lawful s t settings (lacking i d l) n = refused n (omega arith)
 done-lawful s t settings (made i d l) n =
     ((one-or-three s, omega (arith, no-longer (stageOps s t settings), at-most-ten s t settings)), plan-true (channelsOf s) (mergeOps (stageOps s t settings)))
@@ -197,5 +198,6 @@ done-verdict s t settings (same i e) n = rw (equivalent-exactly s t .1 e) (check
     space : Equivalent s t → s .«colour_space» ≡ t .«colour_space»
     space (both-xyb e x) = e
     space (alike e i w c p) = e
+done-verdict s t settings (unlabelled i u) n = refused n (omega arith)
 done-verdict s t settings (lacking i d l) n = refused n (omega arith)
 done-verdict s t settings (made i d l) n = rw (fails-exactly (equivalent-exactly s t) .1 d) (of-merged s t settings)

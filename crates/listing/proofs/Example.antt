@@ -1,10 +1,12 @@
 -- The example of 01: what is printed for its 18 bytes, and for the 19 of version 2; and for blocks that are cut, tell a false end width, or have an
--- op that finds another width. By computing.
+-- op that finds another width or the retired curve. By computing.
 use mathlib.Core.Path.{_≡_, refl}
-use mathlib.Core.List.{[], _∷_}
+use mathlib.Core.List.{[], _∷_, _++_}
 use lib.Ieee.{isNan, ofBits}
+use lib.ListN.{replicate}
 use Rattle.notation.specs.Text.{ascii}
 use Rattle.list.specs.Lists.{isTrue}
+use Rattle.parts.specs.Curves.{curveNumbered}
 use Rattle.block.specs.Fields.{firstFloat, opRead}
 use Rattle.block.specs.BadFields.{badField}
 use Rattle.listing.specs.Listing.{textOf}
@@ -39,3 +41,9 @@ misfit = refl
 pub second-misfit : textOf (0x43 ∷ 0x54 ∷ 0x50 ∷ 0x02 ∷ 0x00 ∷ 0x01 ∷ 0x02 ∷ 0x00 ∷ 0x09 ∷ 0x02 ∷ []) ≡ ascii "start 1 ops 2\n0 Clip\n1 XyzToLuma\nrefused 5 at 1\n"
 unfolding badField opRead isTrue
 second-misfit = refl
+
+-- the word `retired` stands behind the name where the curve is Unknown, and not where it is Linear
+pub retired : textOf ((0x43 ∷ 0x54 ∷ 0x50 ∷ 0x01 ∷ 0x00 ∷ 0x03 ∷ 0x02 ∷ []) ++ (0x04 ∷ 0x03 ∷ replicate 25 0x00) ++ (0x04 ∷ 0x04 ∷ replicate 25 0x00))
+    ≡ ascii "start 3 ops 2\n0 TransferFunction retired\n1 TransferFunction\nend 3\n"
+unfolding badField opRead firstFloat isNan ofBits isTrue curveNumbered
+retired = refl

@@ -12,15 +12,15 @@ use Rattle.list.specs.declared.Verdict.{Verdict}
 use Rattle.list.specs.declared.Verdict.the-variants.{Passes, Malformed, Misfit}
 use Rattle.block.specs.Block.{paper, readOf}
 use Rattle.block.specs.declared.Block.{Block}
-use Rattle.listing.specs.Words.{nameOf, decimal, counted, ending}
+use Rattle.listing.specs.Words.{titleOf, decimal, counted, ending}
 
 -- "start 1 ops 3"
 abbrev pub firstLine : ℕ → ℕ → List ℕ
 firstLine start count = counted (ascii "start ") start ++ ending (ascii " ops ") count
 
--- "0 Clip"
+-- "0 Clip"; "0 TransferFunction retired"
 abbrev pub opLine : ℕ → Op → List ℕ
-opLine i o = decimal i ++ (ascii " " ++ (nameOf o ++ ascii "\n"))
+opLine i o = decimal i ++ (ascii " " ++ (titleOf o ++ ascii "\n"))
 
 -- a line for each op, the first of them numbered i
 abbrev pub opLines : ℕ → List Op → List ℕ

@@ -1,9 +1,10 @@
--- What the lines are made of: the names of the ops, and numbers in decimal. (01, Plan block). Definitions only.
+-- What the lines are made of: the names of the ops, and numbers in decimal. (01, Plan block; 02, W10). Definitions only.
 use Prim.Native.Nat.{ℕ, _+_, _/_, _%_}
 use mathlib.Core.List.{List, [], _∷_, _++_}
 use lib.Dec.{ltb}
 use Rattle.notation.specs.Choice.{if_then_else_}
 use Rattle.notation.specs.Text.{ascii}
+use Rattle.op.specs.Retired.{isRetired}
 use Rattle.op.specs.declared.Op.{Op}
 use Rattle.op.specs.declared.Op.the-variants as O
 
@@ -19,6 +20,13 @@ nameOf (O.ToneMapRec2408 params display detect) = ascii "ToneMapRec2408"
 nameOf (O.ToneMapLumaRec2408 params display detect) = ascii "ToneMapLumaRec2408"
 nameOf (O.GamutMap luminances factor) = ascii "GamutMap"
 nameOf O.Clip = ascii "Clip"
+
+-- "the list program adds the word `retired` after the op's name" (02, W10)
+abbrev pub markOf : Op → List ℕ
+markOf o = if isRetired o then ascii " retired" else []
+
+abbrev pub titleOf : Op → List ℕ
+titleOf o = nameOf o ++ markOf o
 
 -- the digit `0` to `9` of a number below ten
 abbrev pub digit : ℕ → ℕ

@@ -15,8 +15,8 @@ use op::Op;
 use words::put;
 use words::put_counted;
 use words::put_ending;
-use words::put_name;
 use words::put_number;
+use words::put_title;
 
 fn put_first_line(out: &mut [u8], at: usize, start: usize, count: usize) -> usize
     requires { ⌜ Room (now out) at (firstLine start count) ⌝ }
@@ -34,8 +34,8 @@ fn put_op_line(out: &mut [u8], at: usize, i: usize, op: Op) -> usize
 {
     let after_number = put_number(out, at, i);
     let after_space = put(out, after_number, b" ");
-    let after_name = put_name(out, after_space, op);
-    put(out, after_name, b"\n")
+    let after_title = put_title(out, after_space, op);
+    put(out, after_title, b"\n")
 }
 
 fn put_op_lines(out: &mut [u8], at: usize, slots: [Slot; 32], count: usize) -> usize

@@ -1,6 +1,6 @@
 // What the lines are made of, each put into a buffer from a place on; the answer is the place after it.
 ghost use Prim.Native.Nat.{_<_};
-ghost use Rattle.listing.specs.Words.{nameOf, decimal, counted, ending};
+ghost use Rattle.listing.specs.Words.{nameOf, markOf, titleOf, decimal, counted, ending};
 ghost use Rattle.buffer.specs.Buffer.{Room, Put};
 use op::Op;
 
@@ -60,4 +60,23 @@ pub(crate) fn put_name(out: &mut [u8], at: usize, op: Op) -> usize
         Op::GamutMap { .. } => put(out, at, b"GamutMap"),
         Op::Clip => put(out, at, b"Clip"),
     }
+}
+
+// A word behind the name of an op that has the retired curve.
+pub(crate) fn put_mark(out: &mut [u8], at: usize, op: Op) -> usize
+    requires { ⌜ Room (now out) at (markOf op) ⌝ }
+    ensures { λ r. ⌜ Put (now (out .entry)) at (markOf op) (now (out .exit)) r ⌝ }
+{
+    if op::is_retired(op) {
+        return put(out, at, b" retired");
+    }
+    at
+}
+
+pub(crate) fn put_title(out: &mut [u8], at: usize, op: Op) -> usize
+    requires { ⌜ Room (now out) at (titleOf op) ⌝ }
+    ensures { λ r. ⌜ Put (now (out .entry)) at (titleOf op) (now (out .exit)) r ⌝ }
+{
+    let next = put_name(out, at, op);
+    put_mark(out, next, op)
 }

@@ -1,4 +1,4 @@
--- Each number is given exactly when 01's table says, in the order 1, 2, equivalence, 3; and a refused plan is the empty list with width 0.
+-- Each number is given exactly when 01's table and W10 say, in the order 1, 2, 15, equivalence, 3; and a refused plan is the empty list with width 0.
 -- One answer is given, the first in the order whose cause holds (Sorting).
 use mathlib.Core.Path.{_≡_}
 use mathlib.Core.Logic.{_↔_}
@@ -10,9 +10,9 @@ use Rattle.list.specs.Lists.{noList}
 use Rattle.encoding.specs.declared.ColourEncoding.{ColourEncoding}
 use Rattle.encoding.specs.declared.Settings.{Settings}
 use Rattle.planner.specs.Planning.{paper, plannedOf}
-use Rattle.planner.specs.Refusals.{IsIcc, IsOutside, IsUnsupported}
+use Rattle.planner.specs.Refusals.{IsIcc, IsOutside, IsRetired, IsUnsupported}
 use Rattle.planner.specs.declared.Planning.{Planning}
-use Rattle.planner.specs.declared.Planning.the-variants.{Done, Icc, OutOfRange, Unsupported}
+use Rattle.planner.specs.declared.Planning.the-variants.{Done, Icc, OutOfRange, Retired, Unsupported}
 use Rattle.planner.proofs.Sorting.{told, exactly}
 
 other : (p q : Planning) → ¬ (paper p .number ≡ paper q .number) → ¬ (p ≡ q)
@@ -30,22 +30,35 @@ module _ (source target : ColourEncoding) (settings : Settings) where
     λ h. exactly source target settings OutOfRange .1 (later (h .0) (this (h .1))),
   )
 
-  -- 3 exactly when neither 1 nor 2 is given, the sides are not equivalent, and the source is Unknown or the target is Xyb or Unknown
-  pub three-exactly : (paper (plannedOf source target settings .answer) ≡ answer 3 0 0) ↔ ((¬ IsIcc source target) × (¬ IsOutside source target) × IsUnsupported source target)
+  -- 15 exactly when neither 1 nor 2 is given, and a side that is not Xyb has the Unknown curve
+  pub fifteen-exactly : (paper (plannedOf source target settings .answer) ≡ answer 15 0 0) ↔ ((¬ IsIcc source target) × (¬ IsOutside source target) × IsRetired source target)
+  fifteen-exactly = (
+    λ e. let g = exactly source target settings Retired .0 e in
+        let h = passed g (other Icc Retired (omega arith)) in
+        (h .0, passed (h .1) (other OutOfRange Retired (omega arith)) .0, caused g (other Done Retired (omega arith))),
+    λ h. exactly source target settings Retired .1 (later (h .0) (later (h .1) (this (h .2)))),
+  )
+
+  -- 3 exactly when neither 1, 2 nor 15 is given, the sides are not equivalent, and the source is Unknown or the target is Xyb or Unknown
+  pub three-exactly : (paper (plannedOf source target settings .answer) ≡ answer 3 0 0)
+      ↔ ((¬ IsIcc source target) × (¬ IsOutside source target) × (¬ IsRetired source target) × IsUnsupported source target)
   three-exactly = (
     λ e. let g = exactly source target settings Unsupported .0 e in
         let h = passed g (other Icc Unsupported (omega arith)) in
-        (h .0, passed (h .1) (other OutOfRange Unsupported (omega arith)) .0, caused g (other Done Unsupported (omega arith))),
-    λ h. exactly source target settings Unsupported .1 (later (h .0) (later (h .1) (this (h .2)))),
+        let k = passed (h .1) (other OutOfRange Unsupported (omega arith)) in
+        (h .0, k .0, passed (k .1) (other Retired Unsupported (omega arith)) .0, caused g (other Done Unsupported (omega arith))),
+    λ h. exactly source target settings Unsupported .1 (later (h .0) (later (h .1) (later (h .2) (this (h .3))))),
   )
 
   -- 0 otherwise
-  pub zero-exactly : (paper (plannedOf source target settings .answer) ≡ answer 0 0 0) ↔ ((¬ IsIcc source target) × (¬ IsOutside source target) × (¬ IsUnsupported source target))
+  pub zero-exactly : (paper (plannedOf source target settings .answer) ≡ answer 0 0 0)
+      ↔ ((¬ IsIcc source target) × (¬ IsOutside source target) × (¬ IsRetired source target) × (¬ IsUnsupported source target))
   zero-exactly = (
     λ e. let h = passed (exactly source target settings Done .0 e) (other Icc Done (omega arith)) in
         let k = passed (h .1) (other OutOfRange Done (omega arith)) in
-        (h .0, k .0, passed (k .1) (other Unsupported Done (omega arith)) .0),
-    λ h. exactly source target settings Done .1 (later (h .0) (later (h .1) (later (h .2) none))),
+        let m = passed (k .1) (other Retired Done (omega arith)) in
+        (h .0, k .0, m .0, passed (m .1) (other Unsupported Done (omega arith)) .0),
+    λ h. exactly source target settings Done .1 (later (h .0) (later (h .1) (later (h .2) (later (h .3) none)))),
   )
 
   -- "empty list, width 0"

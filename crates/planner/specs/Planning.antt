@@ -1,11 +1,12 @@
--- What planning answers. "Order: planning 1, 2, equivalence, 3." (01, Refusal numbers)
+-- What planning answers. "Order: planning 1, 2, equivalence, 3." (01, Refusal numbers). "15 in planning, after 2 and before equivalence". (02, W10)
 use Prim.Native.Nat.{ℕ}
-use mathlib.Core.Bool.{Bool, not, _||_}
+use mathlib.Core.Bool.{Bool, not, _&&_, _||_}
 use mathlib.Core.List.{List, []}
 use Rattle.notation.specs.Choice.{if_then_else_}
 use Rattle.notation.specs.Answers.{answer}
 use Rattle.notation.specs.declared.Answer.{Answer}
 use Rattle.list.specs.Lists.{planOf, noList}
+use Rattle.op.specs.Retired.{isUnknown}
 use Rattle.op.specs.declared.Op.{Op}
 use Rattle.merge.specs.Merge.{mergeOps}
 use Rattle.encoding.specs.Encodings.{channelsOf}
@@ -19,7 +20,7 @@ use Rattle.encoding.specs.declared.ColourEncoding.the-variants as E
 use Rattle.encoding.specs.declared.Settings.{Settings}
 use Rattle.stages.specs.Stages.{stageOps}
 use Rattle.planner.specs.declared.Planning.{Planning}
-use Rattle.planner.specs.declared.Planning.the-variants.{Done, Icc, OutOfRange, Unsupported}
+use Rattle.planner.specs.declared.Planning.the-variants.{Done, Icc, OutOfRange, Retired, Unsupported}
 use Rattle.planner.specs.declared.Planned.{Planned}
 
 -- 01's answer; planning names no position and no width
@@ -27,6 +28,7 @@ abbrev pub paper : Planning → Answer
 paper Done = answer 0 0 0
 paper Icc = answer 1 0 0
 paper OutOfRange = answer 2 0 0
+paper Retired = answer 15 0 0
 paper Unsupported = answer 3 0 0
 
 -- a refusal's result is "empty list, width 0"
@@ -40,6 +42,13 @@ done start ops = record { answer = Done; plan = planOf start ops }
 abbrev pub outOfRange : EnumColourEncoding → EnumColourEncoding → Bool
 outOfRange source target = not (inRange source) || not (inRange target)
 
+-- 15: "an encoding whose transfer function is Unknown, on either side, even if the sides are equivalent. Only in an Xyb encoding is the curve not looked at"
+abbrev pub hasUnknown : EnumColourEncoding → Bool
+hasUnknown e = not (sameSpace (e .«colour_space») S.Xyb) && isUnknown (e .tf)
+
+abbrev pub retired : EnumColourEncoding → EnumColourEncoding → Bool
+retired source target = hasUnknown source || hasUnknown target
+
 -- 3: "the source is Unknown or the target is Xyb or Unknown"
 abbrev pub unsupported : EnumColourEncoding → EnumColourEncoding → Bool
 unsupported source target =
@@ -50,6 +59,7 @@ unsupported source target =
 abbrev pub planned : EnumColourEncoding → EnumColourEncoding → Settings → Planned
 planned source target settings =
     if outOfRange source target then refusal OutOfRange
+    else if retired source target then refusal Retired
     else if equivalent source target then done (channelsOf source) []
     else if unsupported source target then refusal Unsupported
     else done (channelsOf source) (mergeOps (stageOps source target settings))

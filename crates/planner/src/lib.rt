@@ -3,7 +3,7 @@ ghost use mathlib.Core.Path.{_≡_};
 ghost use Rattle.list.specs.Lists.{planOf};
 ghost use Rattle.encoding.specs.Encodings.{channelsOf};
 ghost use Rattle.stages.specs.Stages.{stageOps};
-ghost use Rattle.planner.specs.Planning.{paper, outOfRange, unsupported, refusal, planned, plannedOf};
+ghost use Rattle.planner.specs.Planning.{paper, outOfRange, hasUnknown, retired, unsupported, refusal, planned, plannedOf};
 use encoding::ColourEncoding;
 use encoding::ColourSpace;
 use encoding::EnumColourEncoding;
@@ -17,6 +17,8 @@ pub enum Planning {
     Icc,
     // Refusal 2: a coordinate or `g` is outside its range.
     OutOfRange,
+    // Refusal 15: the transfer function of a side that is not Xyb is Unknown.
+    Retired,
     // Refusal 3: the source is Unknown, or the target is Xyb or Unknown.
     Unsupported,
 }
@@ -47,6 +49,21 @@ fn is_out_of_range(source: EnumColourEncoding, target: EnumColourEncoding) -> bo
     !encoding::in_range(source) | !encoding::in_range(target)
 }
 
+// Only in an Xyb encoding is the curve not looked at.
+fn has_unknown(side: EnumColourEncoding) -> bool
+    ensures { λ r. ⌜ r ≡ hasUnknown side ⌝ }
+{
+    let space = side.colour_space;
+    let curve = side.tf;
+    !encoding::same_colour_space(space, ColourSpace::Xyb) & op::is_unknown(curve)
+}
+
+fn is_retired(source: EnumColourEncoding, target: EnumColourEncoding) -> bool
+    ensures { λ r. ⌜ r ≡ retired source target ⌝ }
+{
+    has_unknown(source) | has_unknown(target)
+}
+
 fn is_unsupported(source: EnumColourEncoding, target: EnumColourEncoding) -> bool
     ensures { λ r. ⌜ r ≡ unsupported source target ⌝ }
 {
@@ -69,6 +86,9 @@ fn plan_enum(source: EnumColourEncoding, target: EnumColourEncoding, settings: S
 {
     if is_out_of_range(source, target) {
         return refused(Planning::OutOfRange);
+    }
+    if is_retired(source, target) {
+        return refused(Planning::Retired);
     }
     if encoding::is_equivalent(source, target) {
         let plan = list::empty(encoding::channels(source));
@@ -108,6 +128,7 @@ pub fn paper(planning: Planning) -> Answer
         Planning::Done => 0,
         Planning::Icc => 1,
         Planning::OutOfRange => 2,
+        Planning::Retired => 15,
         Planning::Unsupported => 3,
     };
     Answer {

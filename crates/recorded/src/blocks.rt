@@ -1,4 +1,4 @@
-// Plan blocks: n, the n bytes, four to a word; number, bytes of rest, version, start width and list.
+// Plan blocks: n, the n bytes, four to a word; number, bytes of rest, version, the number of writing the list again, start width and list.
 use list::Plan;
 use record::from_word;
 
@@ -54,17 +54,25 @@ fn follows(rest: &[u8], bytes: &[u8], used: usize) -> bool {
     same_bytes(rest, &bytes[used..])
 }
 
-// Whether the list that was read, written again at the block's own version, gives the first `used` bytes; of a refused block none are used.
-fn rewrites(plan: Plan, version: u16, bytes: &[u8], used: usize) -> bool {
+// Whether the list that was read, written again at the block's own version, gives the first `used` bytes; or is refused by this number, and
+// nothing is written.
+fn rewrites(plan: Plan, version: u16, number: u32, bytes: &[u8], used: usize) -> bool {
     let mut room = [0xa5u8; ROOM];
+    let before = room;
     let written = writer::write(plan, version, &mut room);
+    if writer::paper(written).number as u32 != number {
+        return false;
+    }
+    if number != 0 {
+        return writer::length(written) == 0 && same_bytes(&room, &before);
+    }
     writer::length(written) == used && begin_alike(&room, bytes, used)
 }
 
 // Reads the block and compares what is found with the answer: number, bytes of rest, version, start width and list. Then the list is
-// written again.
+// written again, and its number compared too.
 fn reads(bytes: &[u8], answer: &[u8]) -> bool {
-    let found = record::list_at(answer, 3, 4);
+    let found = record::list_at(answer, 4, 5);
     if found.next != record::words(answer) {
         return false;
     }
@@ -78,7 +86,13 @@ fn reads(bytes: &[u8], answer: &[u8]) -> bool {
         && read.version as u32 == record::word(answer, 2)
         && same::same_list(plan, list)
         && follows(rest, bytes, read.used)
-        && rewrites(plan, read.version, bytes, read.used)
+        && rewrites(
+            plan,
+            read.version,
+            record::word(answer, 3),
+            bytes,
+            read.used,
+        )
 }
 
 pub(crate) fn same_block(words: &[u8]) -> bool {

@@ -12,6 +12,8 @@ use libc::STDOUT_FILENO;
 use list::Plan;
 use notation::Answer;
 use op::Curve;
+use op::HdrParams;
+use op::Luminances;
 use op::Op;
 
 // None of them matters here.
@@ -61,7 +63,7 @@ fn show_plan(given: &[u8], source: ColourEncoding, target: ColourEncoding) {
     show(given, planner::paper(reached));
 }
 
-// 1, 2 and 3.
+// 1, 2, 15 and 3.
 fn plans() {
     let rgb = side(ColourSpace::Rgb, WhitePoint::D65, Curve::Linear);
     show_plan(
@@ -77,6 +79,11 @@ fn plans() {
         b"a plan from a white point at x = 9",
         side(ColourSpace::Rgb, nowhere, Curve::Linear),
         rgb,
+    );
+    show_plan(
+        b"a plan to the Unknown curve",
+        rgb,
+        side(ColourSpace::Rgb, WhitePoint::D65, Curve::Unknown),
     );
     show_plan(
         b"a plan from an unknown colour space",
@@ -175,20 +182,39 @@ fn strips() {
     show(b"a strip without an open run", strips::paper(stripped));
 }
 
-fn show_writing(given: &[u8], version: u16) {
+fn show_writing(given: &[u8], plan: Plan, version: u16) {
     let mut seven = [0u8; 7];
-    let clip = list::push(list::empty(1), Op::Clip);
     show(
         given,
-        writer::paper(writer::write(clip, version, &mut seven)),
+        writer::paper(writer::write(plan, version, &mut seven)),
     );
 }
 
-// 8 and 12.
+// 8, 15 and 12.
 fn writings() {
-    show_writing(b"a list written in version 3", 3);
+    let clip = list::push(list::empty(1), Op::Clip);
+    show_writing(b"a list written in version 3", clip, 3);
+    let unknown = Op::TransferFunction {
+        curve: Curve::Unknown,
+        hdr_params: HdrParams {
+            luminances: Luminances {
+                red: 0.0,
+                green: 0.0,
+                blue: 0.0,
+            },
+            intensity_target: 255.0,
+            min_nits: 0.0,
+        },
+        inverse: false,
+    };
+    show_writing(
+        b"a list with the Unknown curve, written into seven bytes",
+        list::push(list::empty(1), unknown),
+        1,
+    );
     show_writing(
         b"a list of one op, whose block of version 1 has eight bytes, written into seven",
+        clip,
         1,
     );
 }

@@ -1,5 +1,5 @@
--- "any block the reader accepts, written again from its list, gives the same block" (W3), "at the block's own version" (W8), byte for byte, where
--- there is room for it. The list that is read is lawful and holds no bad field, and its bytes are the block's own, not what followed them.
+-- "any block the reader accepts, written again from its list, gives the same block" (W3), "at the block's own version" (W8), "for blocks without curve 3"
+-- (W10), byte for byte, where there is room for it. The list that is read is lawful and holds no bad field, and its bytes are the block's own.
 use Prim.Native.Nat.{ℕ, _+_, _*_, _≤_, _<_}
 use mathlib.Core.Path.{_≡_, refl, ap, sym, subst, _∙_}
 use mathlib.Core.Bool.{Bool, true, false}
@@ -29,6 +29,7 @@ use Rattle.block.proofs.Versions.{eight, truly-told}
 use Rattle.block.proofs.Ways.{all-fit}
 use Rattle.writer.specs.Bytes.{u16Bytes, joined, opBytes, endBytes, headBytes, blockOf}
 use Rattle.writer.specs.Writing.{badOp, badList, writingOf, leftBy, leftOf}
+use Rattle.writer.specs.Refusals.{RetiredList}
 use Rattle.writer.specs.declared.Writing.{Writing}
 use Rattle.writer.specs.declared.Writing.the-variants.{Done}
 use Rattle.writer.proofs.Badness.{bad-exactly}
@@ -99,13 +100,13 @@ module _ (s : List ℕ) (b : AreBytes s) (e : paper (readOf s .answer) ≡ answe
   long : length (blockOf (readOf s .version) (readOf s .plan)) ≡ readOf s .used
   long = ap length same-bytes ∙ omega (arith, length-take (readOf s .used) s, used-fits s)
 
-  module _ (old : List ℕ) (room : readOf s .used ≤ length old) where
+  module _ (no-retired : ¬ RetiredList (readOf s .plan)) (old : List ℕ) (room : readOf s .used ≤ length old) where
     -- it is written, with the length that was read
     pub written-again : writingOf (readOf s .plan) (readOf s .version) (length old) ≡ Done (readOf s .used)
     written-again =
         let p = readOf s .plan in
         let v = readOf s .version in
-        is-whole p v (length old) (zero-exactly p v (length old) .1 (lawful s e, known, fails-exactly (bad-exactly p) .0 good, omega (arith, long))) ∙ ap Done long
+        is-whole p v (length old) (zero-exactly p v (length old) .1 (lawful s e, known, fails-exactly (bad-exactly p) .0 good, no-retired, omega (arith, long))) ∙ ap Done long
 
     -- the same block, and behind it the buffer as it was
     pub same-block : leftOf (readOf s .plan) (readOf s .version) old ≡ take (readOf s .used) s ++ drop (readOf s .used) old

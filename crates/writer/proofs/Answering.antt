@@ -15,9 +15,9 @@ use Rattle.buffer.proofs.Putting.{putting, listed}
 use Rattle.buffer.proofs.Within.{is-the-text}
 use Rattle.block.specs.Block.{knownVersion}
 use Rattle.writer.specs.Bytes.{blockOf}
-use Rattle.writer.specs.Writing.{badList, writingOf, leftBy, leftOf}
+use Rattle.writer.specs.Writing.{badList, retiredList, writingOf, leftBy, leftOf}
 use Rattle.writer.specs.declared.Writing.{Writing}
-use Rattle.writer.specs.declared.Writing.the-variants.{Done, Malformed, WrongVersion, BadField, NoRoom}
+use Rattle.writer.specs.declared.Writing.the-variants.{Done, Malformed, WrongVersion, BadField, Retired, NoRoom}
 use Rattle.writer.proofs.Lengths.{at-most}
 
 module _ (p : Plan) (v : ℕ) (old : List ℕ) where
@@ -55,20 +55,26 @@ module _ (p : Plan) (v : ℕ) (old : List ℕ) where
             bad s = left (rw (is-lawful, is-known, ← f, s)) refl
 
             module _ (s : a ≡ false) where
-              pub asks : {room : List ℕ} → length room ≡ 1192 → Room room 0 (blockOf v p) × ((p .count ≤ 32) × (badList p ≡ false))
-              asks l = (record { enough = omega (arith, at-most p v formed) }, (formed .0 .1, sym f ∙ s))
-
-              module _ {room laid : List ℕ} {n : ℕ} (q : Put room 0 (blockOf v p) laid n) where
-                pub short : length old < n → Answers NoRoom old
+              module _ {b : Bool} (i : b ≡ retiredList p) where
+                pub retired : b ≡ true → Answers Retired old
                 unfolding writingOf
-                short h =
-                    let l : length old < length (blockOf v p) = omega (arith, listed q .size) in
-                    left (rw (is-lawful, is-known, ← f, s, lt-ltb (length old) (length (blockOf v p)) l)) refl
+                retired r = left (rw (is-lawful, is-known, ← f, s, ← i, r)) refl
 
-                pub done : n ≤ length old → {r : ℕ} {new : List ℕ} → r ≡ behind old 0 (take n laid) → new ≡ placed old 0 (take n laid) → Answers (Done n) new
-                unfolding writingOf
-                done h {r} {new} x y =
-                    let l : length (blockOf v p) ≤ length old = omega (arith, listed q .size) in
-                    let b : take n laid ≡ blockOf v p = is-the-text (listed q) in
-                    let put : Put old 0 (blockOf v p) new r = putting old 0 (blockOf v p) (record { enough = omega arith }) (rw b at x) (rw b at y) in
-                    left (rw (is-lawful, is-known, ← f, s, le-ltb (length old) (length (blockOf v p)) l, listed q .size)) (rw (listed q .size) (listed put .contents))
+                module _ (r : b ≡ false) where
+                  pub asks : {room : List ℕ} → length room ≡ 1192 → Room room 0 (blockOf v p) × ((p .count ≤ 32) × (badList p ≡ false))
+                  asks l = (record { enough = omega (arith, at-most p v formed) }, (formed .0 .1, sym f ∙ s))
+
+                  module _ {room laid : List ℕ} {n : ℕ} (q : Put room 0 (blockOf v p) laid n) where
+                    pub short : length old < n → Answers NoRoom old
+                    unfolding writingOf
+                    short h =
+                        let l : length old < length (blockOf v p) = omega (arith, listed q .size) in
+                        left (rw (is-lawful, is-known, ← f, s, ← i, r, lt-ltb (length old) (length (blockOf v p)) l)) refl
+
+                    pub done : n ≤ length old → {k : ℕ} {new : List ℕ} → k ≡ behind old 0 (take n laid) → new ≡ placed old 0 (take n laid) → Answers (Done n) new
+                    unfolding writingOf
+                    done h {k} {new} x y =
+                        let l : length (blockOf v p) ≤ length old = omega (arith, listed q .size) in
+                        let b : take n laid ≡ blockOf v p = is-the-text (listed q) in
+                        let put : Put old 0 (blockOf v p) new k = putting old 0 (blockOf v p) (record { enough = omega arith }) (rw b at x) (rw b at y) in
+                        left (rw (is-lawful, is-known, ← f, s, ← i, r, le-ltb (length old) (length (blockOf v p)) l, listed q .size)) (rw (listed q .size) (listed put .contents))

@@ -1,4 +1,4 @@
--- Each answer is given exactly when W3 and W8 say, in the order 10, 8, 9, 12; and what the buffer holds then.
+-- Each answer is given exactly when W3, W8 and W10 say, in the order 10, 8, 9, 15, 12; and what the buffer holds then.
 -- One answer is given, the first in the order whose cause holds (Sorting); what is left goes by the answer.
 use Prim.Native.Nat.{ℕ, _≤_, _<_}
 use mathlib.Core.Path.{_≡_, refl, ap, subst, _∙_}
@@ -16,9 +16,9 @@ use Rattle.list.proofs.Formed.{never-both}
 use Rattle.block.specs.Refusals.{Known}
 use Rattle.writer.specs.Bytes.{blockOf}
 use Rattle.writer.specs.Writing.{paper, lengthOf, writingOf, leftBy, leftOf}
-use Rattle.writer.specs.Refusals.{BadList, Cause, Given}
+use Rattle.writer.specs.Refusals.{BadList, RetiredList, Cause, Given}
 use Rattle.writer.specs.declared.Writing.{Writing}
-use Rattle.writer.specs.declared.Writing.the-variants.{Done, Malformed, WrongVersion, BadField, NoRoom}
+use Rattle.writer.specs.declared.Writing.the-variants.{Done, Malformed, WrongVersion, BadField, Retired, NoRoom}
 use Rattle.writer.proofs.Lengths.{at-most}
 use Rattle.writer.proofs.Sorting.{otherwise-lawful, otherwise-known, past-eight, exactly, given, done-is, is-whole, other}
 
@@ -32,7 +32,7 @@ module _ (p : Plan) (v room : ℕ) where
 
   -- an answer behind the tests for 10 and 8
   passes : {writing : Writing} → Given p v room writing → ¬ (Malformed ≡ writing) → ¬ (WrongVersion ≡ writing)
-      → Lawful p × Known v × FirstOf (Cause p v room) whole (BadField ∷ NoRoom ∷ []) writing
+      → Lawful p × Known v × FirstOf (Cause p v room) whole (BadField ∷ Retired ∷ NoRoom ∷ []) writing
   passes g n m =
       let h = passed g n in
       let k = passed (h .1) m in
@@ -59,23 +59,34 @@ module _ (p : Plan) (v room : ℕ) where
     λ h. exactly p v room BadField refl .1 (past-eight p v room (h .0) (h .1) (this (h .2))),
   )
 
-  -- 12 exactly when the list is lawful, the version is 1 or 2, none of the fields is bad, and the buffer is shorter than the block
-  pub twelve-exactly : (paper (writingOf p v room) ≡ answer 12 0 0) ↔ (Lawful p × Known v × (¬ BadList p) × (room < length (blockOf v p)))
+  -- 15 exactly when the list is lawful, the version is 1 or 2, none of the fields is bad, and an op of the list has the Unknown curve
+  pub fifteen-exactly : (paper (writingOf p v room) ≡ answer 15 0 0) ↔ (Lawful p × Known v × (¬ BadList p) × RetiredList p)
+  fifteen-exactly = (
+    λ e. let g = exactly p v room Retired refl .0 e in
+        let h = passes g (other Malformed Retired (omega arith)) (other WrongVersion Retired (omega arith)) in
+        (h .0, h .1, passed (h .2) (other BadField Retired (omega arith)) .0, caused g (other whole Retired (omega arith))),
+    λ h. exactly p v room Retired refl .1 (past-eight p v room (h .0) (h .1) (later (h .2) (this (h .3)))),
+  )
+
+  -- 12 exactly when the list is lawful, the version is 1 or 2, none of the fields is bad, no curve is retired, and the buffer is shorter than the block
+  pub twelve-exactly : (paper (writingOf p v room) ≡ answer 12 0 0) ↔ (Lawful p × Known v × (¬ BadList p) × (¬ RetiredList p) × (room < length (blockOf v p)))
   twelve-exactly = (
     λ e. let g = exactly p v room NoRoom refl .0 e in
         let h = passes g (other Malformed NoRoom (omega arith)) (other WrongVersion NoRoom (omega arith)) in
-        (h .0, h .1, passed (h .2) (other BadField NoRoom (omega arith)) .0, caused g (other whole NoRoom (omega arith))),
-    λ h. exactly p v room NoRoom refl .1 (past-eight p v room (h .0) (h .1) (later (h .2) (this (h .3)))),
+        let k = passed (h .2) (other BadField NoRoom (omega arith)) in
+        (h .0, h .1, k .0, passed (k .1) (other Retired NoRoom (omega arith)) .0, caused g (other whole NoRoom (omega arith))),
+    λ h. exactly p v room NoRoom refl .1 (past-eight p v room (h .0) (h .1) (later (h .2) (later (h .3) (this (h .4))))),
   )
 
   -- 0 otherwise
-  pub zero-exactly : (paper (writingOf p v room) ≡ answer 0 0 0) ↔ (Lawful p × Known v × (¬ BadList p) × (length (blockOf v p) ≤ room))
+  pub zero-exactly : (paper (writingOf p v room) ≡ answer 0 0 0) ↔ (Lawful p × Known v × (¬ BadList p) × (¬ RetiredList p) × (length (blockOf v p) ≤ room))
   zero-exactly = (
     λ e. let h = passes (exactly p v room whole refl .0 e) (other Malformed whole (omega arith)) (other WrongVersion whole (omega arith)) in
         let k = passed (h .2) (other BadField whole (omega arith)) in
-        let n = passed (k .1) (other NoRoom whole (omega arith)) .0 in
-        (h .0, h .1, k .0, enough n),
-    λ h. let l = h .3 in exactly p v room whole refl .1 (past-eight p v room (h .0) (h .1) (later (h .2) (later (short l) none))),
+        let m = passed (k .1) (other Retired whole (omega arith)) in
+        let n = passed (m .1) (other NoRoom whole (omega arith)) .0 in
+        (h .0, h .1, k .0, m .0, enough n),
+    λ h. let l = h .4 in exactly p v room whole refl .1 (past-eight p v room (h .0) (h .1) (later (h .2) (later (h .3) (later (short l) none)))),
   )
     where
       enough : ¬ (room < length (blockOf v p)) → length (blockOf v p) ≤ room
@@ -88,7 +99,7 @@ module _ (p : Plan) (v room : ℕ) where
   pub never-twelve : 1192 ≤ room → ¬ (paper (writingOf p v room) ≡ answer 12 0 0)
   never-twelve h e =
       let t = twelve-exactly .0 e in
-      let k = t .3 in
+      let k = t .4 in
       omega (arith, at-most p v (t .0))
 
 module _ (p : Plan) (v : ℕ) (old : List ℕ) where
@@ -108,6 +119,7 @@ module _ (p : Plan) (v : ℕ) (old : List ℕ) where
       by Malformed g = refl
       by WrongVersion g = refl
       by BadField g = refl
+      by Retired g = refl
       by NoRoom g = refl
 
   -- a refusal "gives length 0 and leaves the buffer untouched"
@@ -119,4 +131,5 @@ module _ (p : Plan) (v : ℕ) (old : List ℕ) where
       by Malformed n = (refl, refl)
       by WrongVersion n = (refl, refl)
       by BadField n = (refl, refl)
+      by Retired n = (refl, refl)
       by NoRoom n = (refl, refl)

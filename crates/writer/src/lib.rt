@@ -3,9 +3,10 @@ ghost use mathlib.Core.Path.{_≡_};
 ghost use lib.ListN.{length};
 ghost use Rattle.writer.specs.Writing.{paper, lengthOf, writingOf, leftOf};
 
-mod bad; // bad.rt: which fields the reader would refuse
+mod faults; // faults.rt: fields that the reader would refuse, and the retired curve
 mod laying; // laying.rt: the bytes of a list
 
+use faults::Fault;
 use list::Plan;
 use notation::Answer;
 
@@ -22,6 +23,8 @@ pub enum Writing {
     WrongVersion,
     // 9: a field that the reader would refuse.
     BadField,
+    // 15: an op has the Unknown curve, which is retired.
+    Retired,
     // 12: the buffer is too short.
     NoRoom,
 }
@@ -51,6 +54,11 @@ pub fn paper(writing: Writing) -> Answer
             position: 0,
             width: 0,
         },
+        Writing::Retired => Answer {
+            number: 15,
+            position: 0,
+            width: 0,
+        },
         Writing::NoRoom => Answer {
             number: 12,
             position: 0,
@@ -68,6 +76,7 @@ pub fn length(writing: Writing) -> usize
         Writing::Malformed => 0,
         Writing::WrongVersion => 0,
         Writing::BadField => 0,
+        Writing::Retired => 0,
         Writing::NoRoom => 0,
     }
 }
@@ -84,8 +93,12 @@ pub fn write(plan: Plan, version: u16, bytes: &mut [u8]) -> Writing
         return Writing::WrongVersion;
     }
     let slots = plan.ops;
-    if bad::bad_ops(slots, plan.count) {
+    let count = plan.count;
+    if faults::any_op(Fault::BadFields, slots, count) {
         return Writing::BadField;
+    }
+    if faults::any_op(Fault::RetiredCurve, slots, count) {
+        return Writing::Retired;
     }
     // Laid out apart, since a buffer that is too short stays untouched.
     let mut block = [0u8; LONGEST];

@@ -5,7 +5,7 @@ pub mod cases;
 
 use crate::encodings::GREATEST_G;
 use crate::lists;
-use crate::ops::Op;
+use crate::ops::{Op, is_retired};
 use crate::record::{Kind, LONGEST, Record};
 use crate::rng::Rng;
 use std::io::Write;
@@ -162,16 +162,27 @@ fn written(
     );
 }
 
+/// The number of writing its list again: "W3's rewriting holds from now on for blocks without curve 3".
+fn written_again(block: &Block) -> u32 {
+    if block.ops.iter().any(is_retired) {
+        15
+    } else {
+        0
+    }
+}
+
+/// n and the bytes; number, bytes of rest, version, the number of writing the list again, start width and list. The list of a refused block is
+/// empty with width 0, and is refused by 10.
 fn record(bytes: &[u8]) -> Record {
     let record = Record::new(Kind::Block)
         .words(&[bytes.len() as u32])
         .packed(bytes);
     match read(bytes) {
         Ok(block) => record
-            .words(&[0, block.rest.len() as u32])
-            .words(&[block.version as u32, block.start as u32])
+            .words(&[0, block.rest.len() as u32, block.version as u32])
+            .words(&[written_again(&block), block.start as u32])
             .words(&lists::words(block.start as usize, &block.ops)),
-        Err(number) => record.words(&[number, bytes.len() as u32, 0, 0, 0, 0]),
+        Err(number) => record.words(&[number, bytes.len() as u32, 0, 10, 0, 0, 0]),
     }
 }
 

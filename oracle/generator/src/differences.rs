@@ -134,6 +134,16 @@ fn plans() {
     show("a Gamma of g 16,777,216", || {
         told(&plan(side(Rgb, curve(0, 16_777_216), Relative), rgb(), s()))
     });
+    let unknown = || side(Rgb, TransferFunction::Unknown, Relative);
+    show("Rgb Unknown to the same", || {
+        told(&plan(unknown(), unknown(), s()))
+    });
+    show("Rgb Unknown to Rgb Linear", || {
+        told(&plan(unknown(), rgb(), s()))
+    });
+    show("Rgb Linear to Rgb Unknown", || {
+        told(&plan(rgb(), unknown(), s()))
+    });
     let grey_hlg = || side(Grey, TransferFunction::Hlg, Relative);
     let from_hlg = plan(grey_hlg(), rgb(), s());
     show("Grey Hlg to Rgb", || told(&from_hlg));
@@ -201,7 +211,12 @@ fn runs() {
     row("lengths 2, 2, 1: XyzToLuma", 3, &[to_luma()], &short);
     row("lengths 2, 1, 1: XyzToLuma", 3, &[to_luma()], &alone);
     row("lengths 2, 2, 1: Clip", 3, &[clip()], &short);
-    row("lengths 2, 2, 1: TransferFunction Unknown", 3, &[unknown()], &short);
+    row(
+        "lengths 2, 2, 1: TransferFunction Unknown",
+        3,
+        &[unknown()],
+        &short,
+    );
     row("lengths 2, 2, 1: the empty list", 3, &[], &short);
     row("start 2, Clip", 2, &[clip()], &two);
     row("33 times Clip", 3, &vec![clip(); 33], &two);

@@ -1,9 +1,9 @@
 //! Lists as a caller hands them over, lawful or not, with an end width that is true or false: what every entry answers that takes one.
-//! The Rust's lists have none, and it refuses none, so what is answered here is worked out from 01 and W8.
+//! The Rust's lists have none, and it refuses none, so what is answered here is worked out from 01, W8 and W10.
 
 use crate::block::cases::op;
 use crate::lists::{List, checked, well_formed};
-use crate::ops::{NAMES, Op};
+use crate::ops::{NAMES, Op, is_retired};
 use crate::record::{Kind, LONGEST, Record};
 use crate::rng::Rng;
 use crate::writing::{self, write_into};
@@ -44,7 +44,7 @@ fn run(list: &List) -> Answer {
     }
 }
 
-/// What the list program prints of it. "A width refusal replaces the last line by `refused 5 at P`"; where 10 refuses, `refused 10` alone.
+/// What the list program prints of it. It "adds the word `retired` after the op's name". "A width refusal replaces the last line by `refused 5 at P`"; where 10 refuses, `refused 10` alone.
 fn text(list: &List) -> String {
     let [number, position, width] = check(list);
     if number == 10 {
@@ -52,7 +52,8 @@ fn text(list: &List) -> String {
     }
     let mut text = format!("start {} ops {}\n", list.start, list.count);
     for (i, op) in list.ops().iter().enumerate() {
-        text += &format!("{i} {}\n", NAMES[op[0] as usize]);
+        let mark = if is_retired(op) { " retired" } else { "" };
+        text += &format!("{i} {}{mark}\n", NAMES[op[0] as usize]);
     }
     text + &match number {
         0 => format!("end {width}\n"),

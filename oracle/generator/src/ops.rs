@@ -22,6 +22,11 @@ pub const NAMES: [&str; 10] = [
     "Clip",
 ];
 
+/// "Curves: .. 3 Unknown": whether an op has the curve that W10 retires.
+pub fn is_retired(op: &Op) -> bool {
+    op[0] == 4 && op[1] == 3
+}
+
 /// The Rust's list of these ops.
 pub fn list(start: usize, ops: &[Op]) -> ColorTransform {
     let list = ColorTransform::from_words(start, ops.len(), &ops.concat());

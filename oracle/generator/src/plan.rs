@@ -1,4 +1,4 @@
-//! Plans, as the given `ColorTransform` makes them between two enum encodings.
+//! Plans, as the given `ColorTransform` makes them between two enum encodings; those that 02 (W10) refuses by 15 apart.
 
 use crate::debug;
 use crate::encodings::{
@@ -22,22 +22,31 @@ struct Case {
 
 pub fn write(rng: &mut Rng, count: usize, out: &mut impl Write) {
     let mut fixed = fixed().into_iter();
-    let (mut refused, mut empty) = (0, 0);
+    let (mut refused, mut retired, mut empty) = (0, 0, 0);
     for _ in 0..count {
         let case = fixed.next().unwrap_or_else(|| random(rng));
         let answer = answer(&case);
-        refused += (answer[0] != 0) as usize;
+        refused += (answer[0] == 3) as usize;
+        retired += (answer[0] == 15) as usize;
         empty += (answer[0] == 0 && answer[2] == 0) as usize;
         record(&case).words(&answer).write(out);
     }
     eprintln!(
-        "plan: {count} plans, {refused} of them refused by 3 and {empty} empty; \
+        "plan: {count} plans, {refused} of them refused by 3, {retired} by 15 and {empty} empty; \
          each is what its Debug print says"
     );
 }
 
-/// The number, the start width, the number of ops, the end width and the ops.
+/// "An encoding whose transfer function is Unknown .. Only in an Xyb encoding is the curve not looked at".
+fn is_retired(side: &EnumColourEncoding) -> bool {
+    side.colour_space != ColourSpace::Xyb && side.tf == TransferFunction::Unknown
+}
+
+/// The number, the start width, the number of ops, the end width and the ops. 15 comes before what the Rust is asked, equivalence and 3.
 fn answer(case: &Case) -> Vec<u32> {
+    if is_retired(&case.from) || is_retired(&case.to) {
+        return vec![15, 0, 0, 0];
+    }
     let side = |e: &EnumColourEncoding| ColorEncodingWithProfile::new(e.clone());
     let s = &case.settings;
     let mut builder = ColorTransform::builder();
@@ -123,11 +132,11 @@ fn settings(from: ColourSpace, intensity_target: f32, from_pq: bool) -> Settings
     }
 }
 
-/// 01's readings, and then each pair of colour spaces, of curves, and each intensity by itself.
+/// 01's readings, and then each pair of colour spaces, of curves, each intensity by itself, and the Unknown curve on either side of each pair of colour spaces.
 fn fixed() -> Vec<Case> {
     use ColourSpace::{Grey, Rgb, Xyb};
     use RenderingIntent::{Perceptual, Relative};
-    use TransferFunction::{Hlg, Linear, Pq, Srgb};
+    use TransferFunction::{Hlg, Linear, Pq, Srgb, Unknown};
     let mut cases = Vec::new();
     let mut add = |from: EnumColourEncoding, to: EnumColourEncoding, intensity, from_pq| {
         let settings = settings(from.colour_space, intensity, from_pq);
@@ -192,6 +201,14 @@ fn fixed() -> Vec<Case> {
                         from_pq,
                     );
                 }
+            }
+        }
+    }
+    for from in SPACES {
+        for to in SPACES {
+            for (one, other) in [(Unknown, Unknown), (Unknown, Linear), (Srgb, Unknown)] {
+                let (from, to) = (plain(from, one, Relative), plain(to, other, Relative));
+                add(from, to, 255.0, false);
             }
         }
     }

@@ -1,10 +1,10 @@
-//! Lists written as plan blocks into buffers. The Rust has none, so a writer judges that is written here, from 01's table, W3 and W8.
+//! Lists written as plan blocks into buffers. The Rust has none, so a writer judges that is written here, from 01's table, W3, W8 and W10.
 
 pub mod cases;
 
 use crate::block::{self, CurveAndG, FIELDS, Flag, Float};
 use crate::lists::List;
-use crate::ops::Op;
+use crate::ops::{Op, is_retired};
 use crate::record::{Kind, LONGEST, Record};
 use crate::rng::Rng;
 use std::io::Write;
@@ -54,7 +54,7 @@ fn op_bytes(op: &Op) -> Vec<u8> {
 }
 
 /// "In this order 10, 9 for a list the reader would refuse by 9, 12 for a buffer too short", and else the length used; "writing any other
-/// version 8, tested after 10".
+/// version 8, tested after 10"; 15 for the Unknown curve, "between 9 and 12".
 pub fn write_into(list: &List, version: u16, buffer: &mut [u8]) -> Result<usize, u32> {
     if list.is_malformed() {
         return Err(10);
@@ -65,6 +65,9 @@ pub fn write_into(list: &List, version: u16, buffer: &mut [u8]) -> Result<usize,
     let bytes = list.block(version);
     if let Err(9) = block::read(&bytes) {
         return Err(9);
+    }
+    if list.ops().iter().any(is_retired) {
+        return Err(15);
     }
     let front = buffer.get_mut(..bytes.len()).ok_or(12u32)?;
     front.copy_from_slice(&bytes);
@@ -94,7 +97,7 @@ fn written(
     out: &mut impl Write,
 ) {
     let mut fixed = fixed.into_iter();
-    let mut refused = [0; 13];
+    let mut refused = [0; 16];
     for _ in 0..count {
         let (number, record) = loop {
             let (list, version, room) = fixed.next().unwrap_or_else(|| random(rng));
@@ -108,8 +111,8 @@ fn written(
         record.write(out);
     }
     eprintln!(
-        "{name}: {count} lists, {} of them refused by 8, {} by 9, {} by 10 and {} by 12",
-        refused[8], refused[9], refused[10], refused[12]
+        "{name}: {count} lists, {} of them refused by 8, {} by 9, {} by 10, {} by 12 and {} by 15",
+        refused[8], refused[9], refused[10], refused[12], refused[15]
     );
 }
 

@@ -4,7 +4,7 @@ use mathlib.Core.Path.{refl}
 use borrow.Author.Needs.{needs}
 use Rattle.buffer.proofs.Putting.{listed}
 use Rattle.buffer.proofs.Within.{within, counts}
-use Rattle.writer.proofs.Answering.{malformed, formed, unknown, bad, asks, short, done}
+use Rattle.writer.proofs.Answering.{malformed, formed, unknown, bad, retired, asks, short, done}
 use Rattle.writer.proofs.write.Statement.{statement}
 use Rattle.writer.proofs.write.Tie as tie
 
@@ -28,8 +28,8 @@ returns-2 c =
     let a = l .before .before .args in
     unknown (a .plan) (a .version) (a .bytes .now) (l .lawful .ensures) (i .if1 .left) (k .known-version .ensures) (c .if2 .taken)
 
-bad-ops-requires : tie.Need-bad-ops-requires
-bad-ops-requires c κs =
+any-op-requires : tie.Need-any-op-requires
+any-op-requires c κs =
     let i = c .before .before .before in
     let l = i .before in
     let a = l .before .before .args in
@@ -43,7 +43,26 @@ returns-3 c =
     let i = k .before in
     let l = i .before in
     let a = l .before .before .args in
-    bad (a .plan) (a .version) (a .bytes .now) (l .lawful .ensures) (i .if1 .left) (k .known-version .ensures) (j .if2 .left) (b .bad-ops .ensures) (c .if3 .taken)
+    bad (a .plan) (a .version) (a .bytes .now) (l .lawful .ensures) (i .if1 .left) (k .known-version .ensures) (j .if2 .left) (b .any-op .ensures) (c .if3 .taken)
+
+any-op-requires-2 : tie.Need-any-op-requires-2
+any-op-requires-2 c κs =
+    let i = c .before .before .before .before .before in
+    let l = i .before in
+    let a = l .before .before .args in
+    formed (a .plan) (a .version) (a .bytes .now) (l .lawful .ensures) (i .if1 .left) .0 .1
+
+returns-4 : tie.Need-returns-4
+returns-4 c =
+    let r = c .before in
+    let e = r .before in
+    let b = e .before in
+    let j = b .before .before in
+    let k = j .before in
+    let i = k .before in
+    let l = i .before in
+    let a = l .before .before .args in
+    retired (a .plan) (a .version) (a .bytes .now) (l .lawful .ensures) (i .if1 .left) (k .known-version .ensures) (j .if2 .left) (b .any-op .ensures) (e .if3 .left) (r .any-op2 .ensures) (c .if4 .taken)
 
 slice-aggregate-put-block : tie.Need-slice-aggregate-put-block
 slice-aggregate-put-block c = search needs
@@ -51,25 +70,29 @@ slice-aggregate-put-block c = search needs
 put-block-requires : tie.Need-put-block-requires
 put-block-requires c κs =
     let m = c .before in
-    let b = m .before in
+    let r = m .before in
+    let e = r .before in
+    let b = e .before in
     let j = b .before .before in
     let k = j .before in
     let i = k .before in
     let l = i .before in
     let a = l .before .before .args in
-    asks (a .plan) (a .version) (a .bytes .now) (l .lawful .ensures) (i .if1 .left) (k .known-version .ensures) (j .if2 .left) (b .bad-ops .ensures) (m .if3 .left) refl
+    asks (a .plan) (a .version) (a .bytes .now) (l .lawful .ensures) (i .if1 .left) (k .known-version .ensures) (j .if2 .left) (b .any-op .ensures) (e .if3 .left) (r .any-op2 .ensures) (m .if4 .left) refl
 
-returns-4 : tie.Need-returns-4
-returns-4 c =
+returns-5 : tie.Need-returns-5
+returns-5 c =
     let p = c .before .before in
     let m = p .before .before in
-    let b = m .before in
+    let r = m .before in
+    let e = r .before in
+    let b = e .before in
     let j = b .before .before in
     let k = j .before in
     let i = k .before in
     let l = i .before in
     let a = l .before .before .args in
-    short (a .plan) (a .version) (a .bytes .now) (l .lawful .ensures) (i .if1 .left) (k .known-version .ensures) (j .if2 .left) (b .bad-ops .ensures) (m .if3 .left) (p .put-block .ensures) (c .if4 .taken)
+    short (a .plan) (a .version) (a .bytes .now) (l .lawful .ensures) (i .if1 .left) (k .known-version .ensures) (j .if2 .left) (b .any-op .ensures) (e .if3 .left) (r .any-op2 .ensures) (m .if4 .left) (p .put-block .ensures) (c .if5 .taken)
 
 array-share-prefix-block : tie.Need-array-share-prefix-block
 array-share-prefix-block c = within (listed (c .before .before .before .put-block .ensures))
@@ -83,19 +106,21 @@ put-requires c κs = search needs
 same-length : tie.Need-same-length
 same-length c = search needs
 
-returns-5 : tie.Need-returns-5
-returns-5 c =
+returns-6 : tie.Need-returns-6
+returns-6 c =
     let q = c .before .before in
     let n = q .before .before .before in
     let p = n .before .before in
     let m = p .before .before in
-    let b = m .before in
+    let r = m .before in
+    let e = r .before in
+    let b = e .before in
     let j = b .before .before in
     let k = j .before in
     let i = k .before in
     let l = i .before in
     let a = l .before .before .args in
-    done (a .plan) (a .version) (a .bytes .now) (l .lawful .ensures) (i .if1 .left) (k .known-version .ensures) (j .if2 .left) (b .bad-ops .ensures) (m .if3 .left) (p .put-block .ensures) (n .if4 .left) (q .put .ensures .0) (q .put .ensures .1)
+    done (a .plan) (a .version) (a .bytes .now) (l .lawful .ensures) (i .if1 .left) (k .known-version .ensures) (j .if2 .left) (b .any-op .ensures) (e .if3 .left) (r .any-op2 .ensures) (m .if4 .left) (p .put-block .ensures) (n .if5 .left) (q .put .ensures .0) (q .put .ensures .1)
 
 pub write-spec : {M : Type 1} → statement M
 write-spec =
@@ -105,13 +130,15 @@ write-spec =
     returns
     known-version-requires
     returns-2
-    bad-ops-requires
+    any-op-requires
     returns-3
+    any-op-requires-2
+    returns-4
     slice-aggregate-put-block
     put-block-requires
-    returns-4
+    returns-5
     array-share-prefix-block
     slice-aggregate-put
     put-requires
     same-length
-    returns-5)
+    returns-6)

@@ -35,6 +35,7 @@ pub fn versions() -> Vec<Asked> {
     asked.extend(largest(2));
     asked.extend(ends());
     asked.extend(unknown());
+    asked.extend(retired());
     asked
 }
 
@@ -161,6 +162,30 @@ fn unknown() -> Vec<Asked> {
         for op in [op(9), bad()] {
             let list = List::new(1, vec![op]);
             asked.extend([60, 0].map(|room| (list.clone(), version, room)));
+        }
+    }
+    asked
+}
+
+/// The Unknown curve, either way, first, last and past the count, beside a NaN and alone; in a known version and in none, with room and without: 15 comes
+/// after 9 and before 12.
+fn retired() -> Vec<Asked> {
+    let curve = |number, inverse| vec![4, number, 0, inverse, 0, 0, 0, 0, 0];
+    let lists = [
+        List::new(3, vec![curve(3, 0)]),
+        List::new(1, vec![curve(3, 1), op(9)]),
+        List::new(3, vec![op(9), curve(4, 1), curve(3, 1)]),
+        List::new(3, vec![curve(4, 0), curve(2, 0)]),
+        List::new(3, vec![op(9), curve(3, 0)]).counted(1),
+        List::new(1, vec![curve(3, 0), bad()]),
+        List::new(1, vec![bad(), curve(3, 0)]),
+        List::new(3, vec![curve(3, 0)]).starting(2),
+        List::new(3, [vec![op(9); 31], vec![curve(3, 0)]].concat()),
+    ];
+    let mut asked = Vec::new();
+    for list in lists {
+        for version in [1, 2, 3] {
+            asked.extend([100, 0].map(|room| (list.clone(), version, room)));
         }
     }
     asked

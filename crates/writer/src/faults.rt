@@ -1,4 +1,4 @@
-// Which fields of a list the reader would refuse by 9.
+// For what the ops of a list are not written: a field that the reader would refuse by 9, or the retired curve.
 ghost use mathlib.Core.Path.{_≡_};
 ghost use mathlib.Core.List.{map};
 ghost use Prim.Native.Nat.{_≤_};
@@ -7,10 +7,17 @@ ghost use Rattle.notation.specs.Several.{any};
 ghost use Rattle.list.specs.Lists.{opOf};
 ghost use Rattle.parts.specs.Parts.{valueOf};
 ghost use Rattle.writer.specs.Writing.{badValue, badOp};
+ghost use Rattle.writer.specs.Steps.{hasFault};
 use list::Slot;
 use op::Op;
 use parts::Cell;
 use parts::Value;
+
+// What an op is refused for.
+pub(crate) enum Fault {
+    BadFields,
+    RetiredCurve,
+}
 
 const LARGEST_G: u32 = 16_777_215;
 
@@ -48,15 +55,25 @@ fn bad_op(op: Op) -> bool
     bad_values(cells, parts.count)
 }
 
-pub(crate) fn bad_ops(slots: [Slot; 32], count: usize) -> bool
+fn has_fault(fault: Fault, op: Op) -> bool
+    ensures { λ r. ⌜ r ≡ hasFault fault op ⌝ }
+{
+    match fault {
+        Fault::BadFields => bad_op(op),
+        Fault::RetiredCurve => op::is_retired(op),
+    }
+}
+
+// Whether an op below the count has this fault.
+pub(crate) fn any_op(fault: Fault, slots: [Slot; 32], count: usize) -> bool
     requires { ⌜ count ≤ 32 ⌝ }
-    ensures { λ r. ⌜ r ≡ any badOp (map opOf (take count slots)) ⌝ }
+    ensures { λ r. ⌜ r ≡ any (hasFault fault) (map opOf (take count slots)) ⌝ }
 {
     let mut i: usize = 0;
     while i < count {
         let slot = slots[i];
         let op = slot.op;
-        if bad_op(op) {
+        if has_fault(fault, op) {
             return true;
         }
         i += 1;

@@ -1,4 +1,4 @@
--- `bad::bad_values` meets its contract.
+-- `faults::bad_values` meets its contract.
 -- The invariant: the values that remain are searched as all are.
 use Prim.Native.Nat.{_-_, _≤_, _<_}
 use mathlib.Core.Path.{_≡_, refl}
@@ -9,8 +9,8 @@ use Rattle.notation.specs.Several.{any}
 use Rattle.parts.specs.Parts.{valueOf}
 use Rattle.writer.specs.Writing.{badValue}
 use Rattle.writer.proofs.Walking.{below, found, goes-on, not-found}
-use Rattle.writer.proofs.bad.bad_values.Statement.{statement}
-use Rattle.writer.proofs.bad.bad_values.Tie as tie
+use Rattle.writer.proofs.faults.bad_values.Statement.{statement}
+use Rattle.writer.proofs.faults.bad_values.Tie as tie
 
 abbrev Inv-loop : tie.InvT-loop
 Inv-loop count cells i₀ i = (i ≤ count) × (any badValue (drop i (below valueOf count cells)) ≡ any badValue (below valueOf count cells))

@@ -1,4 +1,4 @@
--- `bad::bad_ops` meets its contract.
+-- `faults::any_op` meets its contract.
 -- The invariant: the ops that remain are searched as all are.
 use Prim.Native.Nat.{_-_, _≤_, _<_}
 use mathlib.Core.Path.{_≡_, refl}
@@ -7,16 +7,16 @@ use borrow.Author.Needs.{needs}
 use lib.ListN.{length, drop}
 use Rattle.notation.specs.Several.{any}
 use Rattle.list.specs.Lists.{opOf}
-use Rattle.writer.specs.Writing.{badOp}
+use Rattle.writer.specs.Steps.{hasFault}
 use Rattle.writer.proofs.Walking.{below, found, goes-on, not-found}
-use Rattle.writer.proofs.bad.bad_ops.Statement.{statement}
-use Rattle.writer.proofs.bad.bad_ops.Tie as tie
+use Rattle.writer.proofs.faults.any_op.Statement.{statement}
+use Rattle.writer.proofs.faults.any_op.Tie as tie
 
 abbrev Inv-loop : tie.InvT-loop
-Inv-loop count slots i₀ i = (i ≤ count) × (any badOp (drop i (below opOf count slots)) ≡ any badOp (below opOf count slots))
+Inv-loop fault count slots i₀ i = (i ≤ count) × (any (hasFault fault) (drop i (below opOf count slots)) ≡ any (hasFault fault) (below opOf count slots))
 
 abbrev μ-loop : tie.MeasureT-loop
-μ-loop count slots i₀ i = count - i
+μ-loop fault count slots i₀ i = count - i
 
 loop-holds : tie.Need-loop-holds Inv-loop μ-loop
 loop-holds c = (omega arith, refl)
@@ -27,15 +27,15 @@ mul-slot c = omega arith
 array-copy-out-slot : tie.Need-array-copy-out-slot Inv-loop μ-loop
 array-copy-out-slot c = omega arith
 
-bad-op-requires : tie.Need-bad-op-requires Inv-loop μ-loop
-bad-op-requires c κs = search needs
+has-fault-requires : tie.Need-has-fault-requires Inv-loop μ-loop
+has-fault-requires c κs = search needs
 
 returns : tie.Need-returns Inv-loop μ-loop
 returns c =
     let l = c .before .before .before .before in
     let a = l .before .args in
-    let k : l .loop .i < length (a .t1) = search needs in
-    found opOf (a .count) (a .t1) badOp (l .loop .i) (l .loop .inv .1) _ (c .before .before .before .loop-test .taken) k (c .before .bad-op .ensures) (c .if1 .taken)
+    let k : l .loop .i < length (a .t2) = search needs in
+    found opOf (a .count) (a .t2) (hasFault (a .fault)) (l .loop .i) (l .loop .inv .1) _ (c .before .before .before .loop-test .taken) k (c .before .has-fault .ensures) (c .if1 .taken)
 
 add-i : tie.Need-add-i Inv-loop μ-loop
 add-i c = omega arith
@@ -47,17 +47,17 @@ loop-again : tie.Need-loop-again Inv-loop μ-loop
 loop-again c =
     let l = c .before .before .before .before in
     let a = l .before .args in
-    let k : l .loop .i < length (a .t1) = search needs in
-    (omega arith, goes-on opOf (a .count) (a .t1) badOp (l .loop .i) (l .loop .inv .1) _ (c .before .before .before .loop-test .taken) k (c .before .bad-op .ensures) (c .if1 .left))
+    let k : l .loop .i < length (a .t2) = search needs in
+    (omega arith, goes-on opOf (a .count) (a .t2) (hasFault (a .fault)) (l .loop .i) (l .loop .inv .1) _ (c .before .before .before .loop-test .taken) k (c .before .has-fault .ensures) (c .if1 .left))
 
 returns-2 : tie.Need-returns-2 Inv-loop μ-loop
 returns-2 c =
     let l = c .before in
     let a = l .before .args in
-    not-found opOf (a .count) (a .t1) badOp (l .loop .i) (l .loop .inv .1) (c .loop-test .left)
+    not-found opOf (a .count) (a .t2) (hasFault (a .fault)) (l .loop .i) (l .loop .inv .1) (c .loop-test .left)
 
-pub bad-ops-spec : {M : Type 1} → statement M
-bad-ops-spec =
+pub any-op-spec : {M : Type 1} → statement M
+any-op-spec =
     tie.close
     (tie.spec
     Inv-loop
@@ -65,7 +65,7 @@ bad-ops-spec =
     loop-holds
     mul-slot
     array-copy-out-slot
-    bad-op-requires
+    has-fault-requires
     returns
     add-i
     loop-less

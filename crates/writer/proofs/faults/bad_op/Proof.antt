@@ -1,12 +1,12 @@
--- `bad::bad_op` meets its contract.
+-- `faults::bad_op` meets its contract.
 -- The values in the cells are those of the op.
 use mathlib.Core.Path.{ap}
 use borrow.Author.Needs.{needs}
 use Rattle.notation.specs.Several.{any}
 use Rattle.writer.specs.Writing.{badValue}
 use Rattle.writer.proofs.Cells.{values-in, few-values}
-use Rattle.writer.proofs.bad.bad_op.Statement.{statement}
-use Rattle.writer.proofs.bad.bad_op.Tie as tie
+use Rattle.writer.proofs.faults.bad_op.Statement.{statement}
+use Rattle.writer.proofs.faults.bad_op.Tie as tie
 
 parts-of-requires : tie.Need-parts-of-requires
 parts-of-requires c κs = search needs

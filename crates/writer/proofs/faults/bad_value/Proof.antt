@@ -1,11 +1,11 @@
--- `bad::bad_value` meets its contract.
+-- `faults::bad_value` meets its contract.
 -- Each arm is a clause of `badValue`, once the value is known to be its variant; a float that differs from itself is a NaN.
 use mathlib.Core.Path.{sym, ap, _∙_}
 use borrow.Author.Needs.{needs}
 use Rattle.binary32.proofs.Nan.{nan-test}
 use Rattle.writer.specs.Writing.{badValue}
-use Rattle.writer.proofs.bad.bad_value.Statement.{statement}
-use Rattle.writer.proofs.bad.bad_value.Tie as tie
+use Rattle.writer.proofs.faults.bad_value.Statement.{statement}
+use Rattle.writer.proofs.faults.bad_value.Tie as tie
 
 enum-known-value : tie.Need-enum-known-value
 enum-known-value c = search needs
