@@ -1,7 +1,8 @@
 /* The time of one call of mul_add and of cbrt, beside the C library's fmaf and cbrtf; of one sample of screen_bytes, of one pixel of
-   ycbcr_bytes and of one code of code_levels, beside plain Rust loops of the rule before W2, of the same rule, and through a table; all in
-   one run. With BEFORE, of cbrt also beside that of another commit. Inputs: 4,096 random patterns of finite floats with exponents within 30
-   of 0, 65,536 samples from -1/8 to 9/8, 65,536 pixels of any bytes, and 65,536 codes from 0 to 1023; the same for both sides, in warm buffers. */
+   ycbcr_bytes and of rgb_bytes, and of one code of code_levels, beside plain Rust loops of the rule before W2, of the same rules, and
+   through a table; all in one run. With BEFORE, of cbrt also beside that of another commit. Inputs: 4,096 random patterns of finite floats
+   with exponents within 30 of 0, 65,536 samples from -1/8 to 9/8, 65,536 pixels of any bytes, and 65,536 codes from 0 to 1023; the same
+   for both sides, in warm buffers. */
 #include <math.h>
 #include <stddef.h>
 #include <stdint.h>
@@ -17,6 +18,9 @@ void plain_screen_bytes(const float *samples, uint8_t *bytes, size_t count);
 uint8_t rindsaddle_ycbcr_bytes(uint32_t firmware, const uint8_t *cb, size_t n_cb, const uint8_t *y, size_t n_y, const uint8_t *cr, size_t n_cr,
                                uint8_t *r, size_t n_r, uint8_t *g, size_t n_g, uint8_t *b, size_t n_b);
 void plain_ycbcr_bytes(const uint8_t *cb, const uint8_t *y, const uint8_t *cr, uint8_t *r, uint8_t *g, uint8_t *b, size_t count);
+uint8_t rindsaddle_rgb_bytes(uint32_t firmware, const uint8_t *r, size_t n_r, const uint8_t *g, size_t n_g, const uint8_t *b, size_t n_b,
+                             uint8_t *cb, size_t n_cb, uint8_t *y, size_t n_y, uint8_t *cr, size_t n_cr);
+void plain_rgb_bytes(const uint8_t *r, const uint8_t *g, const uint8_t *b, uint8_t *cb, uint8_t *y, uint8_t *cr, size_t count);
 uint8_t rindsaddle_code_levels(const uint16_t *codes, size_t count, float *levels, size_t room);
 void plain_code_levels(const uint16_t *table, const uint16_t *codes, float *levels, size_t count);
 
@@ -71,6 +75,9 @@ TIMED(plain_screen, FRAMES, SAMPLES, plain_screen_bytes(samples, bytes, SAMPLES)
 TIMED(ours_ycbcr, FRAMES, SAMPLES,
       rindsaddle_ycbcr_bytes(3, in[0], SAMPLES, in[1], SAMPLES, in[2], SAMPLES, to[0], SAMPLES, to[1], SAMPLES, to[2], SAMPLES))
 TIMED(plain_ycbcr, FRAMES, SAMPLES, plain_ycbcr_bytes(in[0], in[1], in[2], to[0], to[1], to[2], SAMPLES))
+TIMED(ours_rgb, FRAMES, SAMPLES,
+      rindsaddle_rgb_bytes(3, in[0], SAMPLES, in[1], SAMPLES, in[2], SAMPLES, to[0], SAMPLES, to[1], SAMPLES, to[2], SAMPLES))
+TIMED(plain_rgb, FRAMES, SAMPLES, plain_rgb_bytes(in[0], in[1], in[2], to[0], to[1], to[2], SAMPLES))
 TIMED(ours_codes, FRAMES, SAMPLES, rindsaddle_code_levels(codes, SAMPLES, levels, SAMPLES))
 TIMED(plain_codes, FRAMES, SAMPLES, plain_code_levels(table, codes, levels, SAMPLES))
 
@@ -91,6 +98,7 @@ int main(void) {
 #endif
     report("screen_bytes", ours_screen(), "plain", plain_screen());
     report("ycbcr_bytes", ours_ycbcr(), "plain", plain_ycbcr());
+    report("rgb_bytes", ours_rgb(), "plain", plain_rgb());
     report("code_levels", ours_codes(), "plain", plain_codes());
     return 0;
 }

@@ -1,5 +1,5 @@
-//! Plain loops that ours are timed beside: 01's rule of screen bytes, which W2 replaced; YCbCr to RGB over bytes by W5's own rule; ten-bit
-//! codes through a table that is lent.
+//! Plain loops that ours are timed beside: 01's rule of screen bytes, which W2 replaced; YCbCr to RGB over bytes by W5's own rule, and back by
+//! W11's; ten-bit codes through a table that is lent.
 
 /// # Safety
 /// `samples` points to `count` floats, and `bytes` to room for as many bytes.
@@ -35,6 +35,29 @@ pub unsafe extern "C" fn plain_ycbcr_bytes(
         r[i] = byte(1000 * y + 1402 * v, 1000);
         g[i] = byte(587000 * y - 202008 * u - 419198 * v, 587000);
         b[i] = byte(1000 * y + 1772 * u, 1000);
+    }
+}
+
+/// # Safety
+/// Each pointer points to `count` bytes, and none of the last three to bytes of another.
+#[unsafe(no_mangle)]
+pub unsafe extern "C" fn plain_rgb_bytes(
+    r: *const u8,
+    g: *const u8,
+    b: *const u8,
+    cb: *mut u8,
+    y: *mut u8,
+    cr: *mut u8,
+    count: usize,
+) {
+    let [r, g, b] = [r, g, b].map(|from| unsafe { std::slice::from_raw_parts(from, count) });
+    let [cb, y, cr] = [cb, y, cr].map(|to| unsafe { std::slice::from_raw_parts_mut(to, count) });
+    for i in 0..count {
+        let (r, g, b) = (r[i] as i64, g[i] as i64, b[i] as i64);
+        let luma = 299 * r + 587 * g + 114 * b;
+        cb[i] = byte(1000 * b - luma + 128 * 1772, 1772);
+        y[i] = byte(luma, 1000);
+        cr[i] = byte(1000 * r - luma + 128 * 1402, 1402);
     }
 }
 

@@ -12,6 +12,8 @@ use Rattle.c_api.proofs.rindsaddle_screen_bytes.Reads as screen-bytes
 use Rattle.c_api.proofs.rindsaddle_screen_bytes.Kinds as screen-bytes-kinds
 use Rattle.c_api.proofs.rindsaddle_ycbcr_bytes.Reads as ycbcr-bytes
 use Rattle.c_api.proofs.rindsaddle_ycbcr_bytes.Kinds as ycbcr-bytes-kinds
+use Rattle.c_api.proofs.rindsaddle_rgb_bytes.Reads as rgb-bytes
+use Rattle.c_api.proofs.rindsaddle_rgb_bytes.Kinds as rgb-bytes-kinds
 use Rattle.c_api.proofs.rindsaddle_code_levels.Reads as code-levels
 use Rattle.c_api.proofs.rindsaddle_code_levels.Kinds as code-levels-kinds
 
@@ -32,6 +34,12 @@ ycbcr-bytes-determines κs a x y s t p q = p .0 ∙ sym (q .0)
 
 pub ycbcr-bytes-channels-determines : Determines 6 ycbcr-bytes-kinds.ps ycbcr-bytes-kinds.r ycbcr-bytes.Post (λ κs r s. planes (now (s .1 .1 .1 .1 .0)) (now (s .1 .1 .1 .1 .1 .0)) (now (s .1 .1 .1 .1 .1 .1 .0)))
 ycbcr-bytes-channels-determines κs a x y s t p q = p .1 ∙ sym (q .1)
+
+pub rgb-bytes-determines : Determines 6 rgb-bytes-kinds.ps rgb-bytes-kinds.r rgb-bytes.Post (λ κs r s. r)
+rgb-bytes-determines κs a x y s t p q = p .0 ∙ sym (q .0)
+
+pub rgb-bytes-channels-determines : Determines 6 rgb-bytes-kinds.ps rgb-bytes-kinds.r rgb-bytes.Post (λ κs r s. planes (now (s .1 .1 .1 .1 .0)) (now (s .1 .1 .1 .1 .1 .0)) (now (s .1 .1 .1 .1 .1 .1 .0)))
+rgb-bytes-channels-determines κs a x y s t p q = p .1 ∙ sym (q .1)
 
 pub code-levels-determines : Determines 2 code-levels-kinds.ps code-levels-kinds.r code-levels.Post (λ κs r s. r)
 code-levels-determines κs a x y s t p q = p .0 ∙ sym (q .0)

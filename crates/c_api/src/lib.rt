@@ -5,6 +5,7 @@ ghost use Rattle.fused.specs.Fused.{fused};
 ghost use Rattle.cbrt.specs.Root.{isRoot, cbrtOf};
 ghost use Rattle.screen.specs.Showing.{paper, showingOf, shownOf};
 ghost use Rattle.weights.specs.Rgb.{rgbOf};
+ghost use Rattle.luma.specs.Ycbcr.{ycbcrOf};
 ghost use Rattle.firmware.specs.Firmware.{weightsOf};
 ghost use Rattle.firmware.specs.Conversion.{conversionOf, leftBy, paper as paperOf};
 ghost use Rattle.planes.specs.Planes.{eachPixel, equallyLong, planes};
@@ -49,6 +50,23 @@ pub extern "C" fn rindsaddle_ycbcr_bytes(
     ensures { λ _. ⌜ planes (now (r .exit)) (now (g .exit)) (now (b .exit)) ≡ leftBy (conversionOf firmware (equallyLong (planes (now (cb .entry)) (now (y .entry)) (now (cr .entry))) (planes (now (r .entry)) (now (g .entry)) (now (b .entry))))) (eachPixel (rgbOf (weightsOf firmware)) (planes (now (cb .entry)) (now (y .entry)) (now (cr .entry)))) (planes (now (r .entry)) (now (g .entry)) (now (b .entry))) ⌝ }
 {
     firmware::paper(ycbcr_bytes::ycbcr_to_rgb(firmware, cb, y, cr, r, g, b)).number
+}
+
+// R, G, B in; Cb, Y, Cr out. 0, or the number of the refusal.
+#[no_mangle]
+pub extern "C" fn rindsaddle_rgb_bytes(
+    firmware: u32,
+    r: &[u8],
+    g: &[u8],
+    b: &[u8],
+    cb: &mut [u8],
+    y: &mut [u8],
+    cr: &mut [u8],
+) -> u8
+    ensures { λ a. ⌜ a ≡ paperOf (conversionOf firmware (equallyLong (planes (now (r .entry)) (now (g .entry)) (now (b .entry))) (planes (now (cb .entry)) (now (y .entry)) (now (cr .entry))))) .number ⌝ }
+    ensures { λ _. ⌜ planes (now (cb .exit)) (now (y .exit)) (now (cr .exit)) ≡ leftBy (conversionOf firmware (equallyLong (planes (now (r .entry)) (now (g .entry)) (now (b .entry))) (planes (now (cb .entry)) (now (y .entry)) (now (cr .entry))))) (eachPixel (ycbcrOf (weightsOf firmware)) (planes (now (r .entry)) (now (g .entry)) (now (b .entry)))) (planes (now (cb .entry)) (now (y .entry)) (now (cr .entry))) ⌝ }
+{
+    firmware::paper(rgb_bytes::rgb_to_ycbcr(firmware, r, g, b, cb, y, cr)).number
 }
 
 // 0, or the number of the refusal.

@@ -1,4 +1,5 @@
-// All 2^24 pixels of bytes from YCbCr to RGB, Cb first and Cr last, by each set of weights: of each channel out its digest, and how many are 0 and 255.
+// All 2^24 pixels of bytes by each set of weights: from YCbCr to RGB, from RGB to YCbCr, and from RGB there and back, the first byte slowest and the last
+// fastest. Of each channel out, or of how far it moved modulo 256, its digest, and how many are 0 and 255.
 use libc::STDOUT_FILENO;
 
 const MODULUS: u64 = 4294967291;
@@ -10,9 +11,15 @@ struct Tally {
 }
 
 struct Tallies {
-    r: Tally,
-    g: Tally,
+    a: Tally,
     b: Tally,
+    c: Tally,
+}
+
+enum Way {
+    ToRgb,
+    ToYcbcr,
+    ThereAndBack,
 }
 
 fn one_more(t: Tally, x: u8) -> Tally {
@@ -31,41 +38,85 @@ fn with(t: Tally, line: &[u8; 256]) -> Tally {
     sum
 }
 
-// A line of 256 pixels, one for each Cr.
-fn with_line(t: Tallies, firmware: u32, cb: u8, y: u8, crs: &[u8; 256]) -> Tallies {
-    let cbs = [cb; 256];
-    let ys = [y; 256];
-    let mut r = [0u8; 256];
-    let mut g = [0u8; 256];
-    let mut b = [0u8; 256];
-    ycbcr_bytes::ycbcr_to_rgb(firmware, &cbs, &ys, crs, &mut r, &mut g, &mut b);
-    let tr = t.r;
-    let tg = t.g;
-    let tb = t.b;
-    Tallies {
-        r: with(tr, &r),
-        g: with(tg, &g),
-        b: with(tb, &b),
+// How far each byte lies above what it was, modulo 256.
+fn less(now: &mut [u8; 256], was: &[u8; 256]) {
+    for i in 0..256usize {
+        now[i] = std::num::wrapping_sub_u8(now[i], was[i]);
     }
 }
 
-fn every(firmware: u32) -> Tallies {
+// How far each channel moves from RGB to YCbCr and back.
+fn move_by(
+    firmware: u32,
+    r: &[u8; 256],
+    g: &[u8; 256],
+    b: &[u8; 256],
+    x: &mut [u8; 256],
+    y: &mut [u8; 256],
+    z: &mut [u8; 256],
+) {
+    let mut cb = [0u8; 256];
+    let mut luma = [0u8; 256];
+    let mut cr = [0u8; 256];
+    rgb_bytes::rgb_to_ycbcr(firmware, r, g, b, &mut cb, &mut luma, &mut cr);
+    ycbcr_bytes::ycbcr_to_rgb(firmware, &cb, &luma, &cr, x, y, z);
+    less(x, r);
+    less(y, g);
+    less(z, b);
+}
+
+// A line of 256 pixels, one for each last byte.
+fn with_line(t: Tallies, way: Way, firmware: u32, first: u8, second: u8, c: &[u8; 256]) -> Tallies {
+    let a = [first; 256];
+    let b = [second; 256];
+    let mut x = [0u8; 256];
+    let mut y = [0u8; 256];
+    let mut z = [0u8; 256];
+    match way {
+        Way::ToRgb => {
+            ycbcr_bytes::ycbcr_to_rgb(firmware, &a, &b, c, &mut x, &mut y, &mut z);
+        }
+        Way::ToYcbcr => {
+            rgb_bytes::rgb_to_ycbcr(firmware, &a, &b, c, &mut x, &mut y, &mut z);
+        }
+        Way::ThereAndBack => {
+            move_by(firmware, &a, &b, c, &mut x, &mut y, &mut z);
+        }
+    }
+    let ta = t.a;
+    let tb = t.b;
+    let tc = t.c;
+    Tallies {
+        a: with(ta, &x),
+        b: with(tb, &y),
+        c: with(tc, &z),
+    }
+}
+
+fn every(way: Way, firmware: u32) -> Tallies {
     let none = Tally {
         digest: 0,
         zeros: 0,
         full: 0,
     };
     let mut t = Tallies {
-        r: none,
-        g: none,
+        a: none,
         b: none,
+        c: none,
     };
-    let mut crs = [0u8; 256];
+    let mut last = [0u8; 256];
     for i in 0..256usize {
-        crs[i] = (i % 256) as u8;
+        last[i] = (i % 256) as u8;
     }
     for i in 0..65536u32 {
-        t = with_line(t, firmware, (i / 256 % 256) as u8, (i % 256) as u8, &crs);
+        t = with_line(
+            t,
+            way,
+            firmware,
+            (i / 256 % 256) as u8,
+            (i % 256) as u8,
+            &last,
+        );
     }
     t
 }
@@ -81,17 +132,27 @@ fn print(name: &[u8], t: Tally) {
     io::write_all(STDOUT_FILENO, b"\n");
 }
 
+fn print_three(t: Tallies, a: &[u8], b: &[u8], c: &[u8]) {
+    let ta = t.a;
+    let tb = t.b;
+    let tc = t.c;
+    print(a, ta);
+    print(b, tb);
+    print(c, tc);
+}
+
 fn print_all(firmware: u32) {
-    let t = every(firmware);
-    let r = t.r;
-    let g = t.g;
-    let b = t.b;
     io::write_all(STDOUT_FILENO, b"firmware ");
     io::print_decimal(STDOUT_FILENO, firmware as u64);
     io::write_all(STDOUT_FILENO, b"\n");
-    print(b"R", r);
-    print(b"G", g);
-    print(b"B", b);
+    print_three(every(Way::ToRgb, firmware), b"R", b"G", b"B");
+    print_three(every(Way::ToYcbcr, firmware), b"Cb", b"Y", b"Cr");
+    print_three(
+        every(Way::ThereAndBack, firmware),
+        b"R moved",
+        b"G moved",
+        b"B moved",
+    );
 }
 
 fn main() {

@@ -77,6 +77,13 @@ fn byte(plus: u64, minus: u64, over: u32) -> u8
     255
 }
 
+// The same of numbers of 32 bits, whatever they are.
+pub fn nearest_byte(plus: u32, minus: u32, over: u32) -> u8
+    ensures { λ r. ⌜ r ≡ byteOf (⟨ plus - minus ⟩/ over) ⌝ }
+{
+    byte(plus as u64, minus as u64, over)
+}
+
 // Red and blue: y + factor (chroma - 128)/n.
 fn red_or_blue(n: u32, factor: u32, y: u8, chroma: u8) -> u8
     ensures { λ r. ⌜ r ≡ byteOf (along n factor y chroma) ⌝ }

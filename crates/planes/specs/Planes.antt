@@ -4,7 +4,7 @@ use mathlib.Core.Path.{_≡_}
 use mathlib.Core.Bool.{Bool, _&&_}
 use mathlib.Core.List.{List, map}
 use lib.Dec.{eqb}
-use lib.ListN.{length}
+use lib.ListN.{getD, length}
 use Rattle.channels.specs.Channels.{zip3}
 use Rattle.weights.specs.Rgb.{pixel}
 use Rattle.weights.specs.declared.Pixel.{Pixel}
@@ -43,3 +43,7 @@ abbrev pub eachPixel : (Pixel → Pixel) → Planes → Planes
 eachPixel f s =
     let ps = map f (zip3 pixel (s .a) (s .b) (s .c)) in
     planes (map c0Of ps) (map c1Of ps) (map c2Of ps)
+
+-- the pixel at a place
+abbrev pub pixelAt : Planes → ℕ → Pixel
+pixelAt s i = pixel (getD (s .a) i 0) (getD (s .b) i 0) (getD (s .c) i 0)

@@ -1,4 +1,5 @@
-// YCbCr to RGB over bytes: the firmware, the lengths of cb, y, cr, r, g, b, their bytes, four to a word; the bytes of r, g, b after, and the number.
+// YCbCr to RGB over bytes, and back: the firmware, the lengths of the three channels in, a, b, c, and out, d, e, f, their bytes, four to a word; the bytes
+// of those out after, and the number.
 ghost use Prim.Native.Nat.{_≤_};
 use crate::blocks::byte_at;
 use crate::blocks::read_bytes;
@@ -24,13 +25,13 @@ fn same_bytes(words: &[u8], bytes: &[u8]) -> bool {
 }
 
 // Whether the answer has these channels and this number, and nothing after.
-fn left(answer: &[u8], r: &[u8], g: &[u8], b: &[u8], number: u8) -> bool {
-    let at_g = past(answer, r.len());
-    let at_b = past(at_g, g.len());
-    let last = past(at_b, b.len());
-    same_bytes(answer, r)
-        & same_bytes(at_g, g)
-        & same_bytes(at_b, b)
+fn left(answer: &[u8], d: &[u8], e: &[u8], f: &[u8], number: u8) -> bool {
+    let at_e = past(answer, d.len());
+    let at_f = past(at_e, e.len());
+    let last = past(at_f, f.len());
+    same_bytes(answer, d)
+        & same_bytes(at_e, e)
+        & same_bytes(at_f, f)
         & (last.len() == 8)
         & (record::word(last, 0) == number as u32)
 }
@@ -48,36 +49,55 @@ fn read_three(words: &[u8], a: &mut [u8], b: &mut [u8], c: &mut [u8]) {
     read_bytes(at_c, c);
 }
 
+// To YCbCr where `back` says so, else to RGB; the number.
+fn convert(
+    back: bool,
+    firmware: u32,
+    a: &[u8],
+    b: &[u8],
+    c: &[u8],
+    d: &mut [u8],
+    e: &mut [u8],
+    f: &mut [u8],
+) -> u8 {
+    if back {
+        return firmware::paper(rgb_bytes::rgb_to_ycbcr(firmware, a, b, c, d, e, f)).number;
+    }
+    firmware::paper(ycbcr_bytes::ycbcr_to_rgb(firmware, a, b, c, d, e, f)).number
+}
+
 // Reads the channels out, converts and compares what is answered and left with the answer's.
 fn converts(
+    back: bool,
     firmware: u32,
     words: &[u8],
-    cb: &[u8],
-    y: &[u8],
-    cr: &[u8],
-    r: &mut [u8],
-    g: &mut [u8],
-    b: &mut [u8],
+    a: &[u8],
+    b: &[u8],
+    c: &[u8],
+    d: &mut [u8],
+    e: &mut [u8],
+    f: &mut [u8],
 ) -> bool {
-    let answer = past_three(words, r.len(), g.len(), b.len());
-    read_three(words, r, g, b);
-    let reached = firmware::paper(ycbcr_bytes::ycbcr_to_rgb(firmware, cb, y, cr, r, g, b));
-    left(answer, r, g, b, reached.number)
+    let answer = past_three(words, d.len(), e.len(), f.len());
+    read_three(words, d, e, f);
+    let number = convert(back, firmware, a, b, c, d, e, f);
+    left(answer, d, e, f, number)
 }
 
 fn reads(
+    back: bool,
     firmware: u32,
     words: &[u8],
-    cb: &mut [u8],
-    y: &mut [u8],
-    cr: &mut [u8],
-    r: &mut [u8],
-    g: &mut [u8],
+    a: &mut [u8],
     b: &mut [u8],
+    c: &mut [u8],
+    d: &mut [u8],
+    e: &mut [u8],
+    f: &mut [u8],
 ) -> bool {
-    let outs = past_three(words, cb.len(), y.len(), cr.len());
-    read_three(words, cb, y, cr);
-    converts(firmware, outs, cb, y, cr, r, g, b)
+    let outs = past_three(words, a.len(), b.len(), c.len());
+    read_three(words, a, b, c);
+    converts(back, firmware, outs, a, b, c, d, e, f)
 }
 
 // A length that the record gives, or 0 where there is no room for it.
@@ -91,27 +111,28 @@ pub(crate) fn length(words: &[u8], k: usize) -> usize
     n
 }
 
-pub(crate) fn same_rgb(words: &[u8]) -> bool {
-    let n_cb = length(words, 1);
-    let n_y = length(words, 2);
-    let n_cr = length(words, 3);
-    let n_r = length(words, 4);
-    let n_g = length(words, 5);
-    let n_b = length(words, 6);
-    let mut cb = [0u8; ROOM];
-    let mut y = [0u8; ROOM];
-    let mut cr = [0u8; ROOM];
-    let mut r = [0u8; ROOM];
-    let mut g = [0u8; ROOM];
+pub(crate) fn same_conversion(words: &[u8], back: bool) -> bool {
+    let n_a = length(words, 1);
+    let n_b = length(words, 2);
+    let n_c = length(words, 3);
+    let n_d = length(words, 4);
+    let n_e = length(words, 5);
+    let n_f = length(words, 6);
+    let mut a = [0u8; ROOM];
     let mut b = [0u8; ROOM];
+    let mut c = [0u8; ROOM];
+    let mut d = [0u8; ROOM];
+    let mut e = [0u8; ROOM];
+    let mut f = [0u8; ROOM];
     reads(
+        back,
         record::word(words, 0),
         from_word(words, 7),
-        &mut cb[..n_cb],
-        &mut y[..n_y],
-        &mut cr[..n_cr],
-        &mut r[..n_r],
-        &mut g[..n_g],
+        &mut a[..n_a],
         &mut b[..n_b],
+        &mut c[..n_c],
+        &mut d[..n_d],
+        &mut e[..n_e],
+        &mut f[..n_f],
     )
 }

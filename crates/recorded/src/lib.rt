@@ -62,6 +62,8 @@ const LEVELS: u32 = 23;
 
 const HANDED: u32 = 24;
 
+const BYTES_BACK: u32 = 25;
+
 fn same_matrix(kind: u32, words: &[u8]) -> bool {
     match kind {
         MATMUL3 => matrices::same_matmul3(words),
@@ -96,7 +98,8 @@ pub fn same(line: &[u8]) -> bool {
         BLOCK => blocks::same_block(words),
         SCREEN => screens::same_screen(words),
         WRITING => handed::same_handed(words, true),
-        BYTES => byte_channels::same_rgb(words),
+        BYTES => byte_channels::same_conversion(words, false),
+        BYTES_BACK => byte_channels::same_conversion(words, true),
         CODE => codes::same_code(words),
         LEVELS => codes::same_levels(words),
         HANDED => handed::same_handed(words, false),

@@ -1,4 +1,4 @@
-//! YCbCr to RGB over bytes. The Rust has it over floats alone, so whole numbers judge, after 02.
+//! YCbCr to RGB over bytes, and back. The Rust has the first over floats alone, so whole numbers judge, after 02.
 
 use crate::firmware::{Judged, UNKNOWN, in_turn, judged};
 use crate::record::{Kind, Record};
@@ -35,6 +35,54 @@ fn bt709([cb, y, cr]: Pixel) -> Pixel {
     ]
 }
 
+/// "luma by the weights (0.299, 0.587, 0.114 [..]), then (B - luma) and (R - luma) divided by
+/// 1.772 and 1.402 [..], plus 128, all from the exact luma" (02, W11); luma in thousandths.
+fn t871_back([r, g, b]: Pixel) -> Pixel {
+    let (r, g, b) = (r as i64, g as i64, b as i64);
+    let luma = 299 * r + 587 * g + 114 * b;
+    [
+        byte(1000 * b - luma + 128 * 1772, 1772),
+        byte(luma, 1000),
+        byte(1000 * r - luma + 128 * 1402, 1402),
+    ]
+}
+
+/// "0.2126, 0.7152, 0.0722 for firmware 4", "1.8556 and 1.5748" (02, W11); luma in ten-thousandths.
+fn bt709_back([r, g, b]: Pixel) -> Pixel {
+    let (r, g, b) = (r as i64, g as i64, b as i64);
+    let luma = 2126 * r + 7152 * g + 722 * b;
+    [
+        byte(10000 * b - luma + 128 * 18556, 18556),
+        byte(luma, 10000),
+        byte(10000 * r - luma + 128 * 15748, 15748),
+    ]
+}
+
+/// A conversion by each set of weights, its kind of record, and pixels half way.
+struct Way {
+    kind: Kind,
+    name: &'static str,
+    t871: fn(Pixel) -> Pixel,
+    bt709: fn(Pixel) -> Pixel,
+    ties: fn() -> Vec<Pixel>,
+}
+
+const TO_RGB: Way = Way {
+    kind: Kind::Bytes,
+    name: "bytes",
+    t871,
+    bt709,
+    ties,
+};
+
+const TO_YCBCR: Way = Way {
+    kind: Kind::BytesBack,
+    name: "bytes-back",
+    t871: t871_back,
+    bt709: bt709_back,
+    ties: ties_back,
+};
+
 /// The six lent channels: three in, three out.
 type Lent = [Vec<u8>; 6];
 
@@ -52,15 +100,15 @@ fn of_pixels(rng: &mut Rng, pixels: &[Pixel]) -> Lent {
 }
 
 /// The number, and the three channels out as they are left.
-fn converted(firmware: u32, [cb, y, cr, r, g, b]: &Lent) -> (u32, [Vec<u8>; 3]) {
-    let equal = [y, cr, r, g, b].iter().all(|other| other.len() == cb.len());
+fn converted(way: &Way, firmware: u32, [a, b, c, d, e, f]: &Lent) -> (u32, [Vec<u8>; 3]) {
+    let equal = [b, c, d, e, f].iter().all(|other| other.len() == a.len());
     let judged = judged(firmware, equal);
-    let rgb = match judged {
-        Judged::T871 => t871,
-        Judged::Bt709 => bt709,
-        Judged::Refused(number) => return (number, [r.clone(), g.clone(), b.clone()]),
+    let convert = match judged {
+        Judged::T871 => way.t871,
+        Judged::Bt709 => way.bt709,
+        Judged::Refused(number) => return (number, [d.clone(), e.clone(), f.clone()]),
     };
-    let pixels: Vec<Pixel> = (0..cb.len()).map(|i| rgb([cb[i], y[i], cr[i]])).collect();
+    let pixels: Vec<Pixel> = (0..a.len()).map(|i| convert([a[i], b[i], c[i]])).collect();
     let channel = |at: usize| pixels.iter().map(|pixel| pixel[at]).collect();
     (0, [channel(0), channel(1), channel(2)])
 }
@@ -75,12 +123,35 @@ fn ties() -> Vec<Pixel> {
         .collect()
 }
 
+/// Ties of Cb and of Cr, where two colours are equal and the third lies an odd number away; lumas half way at T.871 and at
+/// BT.709; and pure colours.
+fn ties_back() -> Vec<Pixel> {
+    let cb = (0..64).map(|i| [4 * i, 4 * i, 255 - 4 * i]);
+    let cr = (0..64).map(|i| [255 - 4 * i, 4 * i, 4 * i]);
+    let pure = (0..8).map(|i| [i & 1, i >> 1 & 1, i >> 2].map(|bit| 255 * bit));
+    let half = |weights: [u32; 3]| {
+        let all = (0u32..1 << 24).step_by(7);
+        let pixels = all.map(|all| [(all >> 16) as u8, (all >> 8) as u8, all as u8]);
+        let luma =
+            move |pixel: &Pixel| (0..3).map(|at| weights[at] * pixel[at] as u32).sum::<u32>();
+        let n: u32 = weights.iter().sum();
+        pixels
+            .filter(move |pixel| luma(pixel) % n == n / 2)
+            .take(128)
+    };
+    cb.chain(cr)
+        .chain(pure)
+        .chain(half([299, 587, 114]))
+        .chain(half([2126, 7152, 722]))
+        .collect()
+}
+
 /// Each channel at its ends, at 128 and beside these.
 fn edges() -> Vec<Pixel> {
     let ends = [0, 1, 127, 128, 129, 254, 255];
-    let each = |cb, y| ends.map(move |cr| [cb, y, cr]);
+    let each = |a, b| ends.map(move |c| [a, b, c]);
     ends.iter()
-        .flat_map(|&cb| ends.iter().flat_map(move |&y| each(cb, y)))
+        .flat_map(|&a| ends.iter().flat_map(move |&b| each(a, b)))
         .collect()
 }
 
@@ -89,8 +160,8 @@ const ROW: usize = 64;
 
 /// The ties and the edges by each firmware that is known; equal lengths, and each of the six one more or one less than
 /// the others, by these in turn; and firmwares that are not, with equal lengths and with others.
-fn fixed(rng: &mut Rng) -> Vec<(u32, Lent)> {
-    let pixels = [ties(), edges()].concat();
+fn fixed(way: &Way, rng: &mut Rng) -> Vec<(u32, Lent)> {
+    let pixels = [(way.ties)(), edges()].concat();
     let rows = pixels.chunks(ROW).enumerate();
     let mut all = Vec::new();
     for (i, row) in rows {
@@ -130,17 +201,25 @@ fn random(rng: &mut Rng) -> Lent {
 }
 
 pub fn write(rng: &mut Rng, count: usize, out: &mut impl Write) {
-    let mut fixed = fixed(rng).into_iter();
+    write_way(&TO_RGB, rng, count, out);
+}
+
+pub fn write_back(rng: &mut Rng, count: usize, out: &mut impl Write) {
+    write_way(&TO_YCBCR, rng, count, out);
+}
+
+fn write_way(way: &Way, rng: &mut Rng, count: usize, out: &mut impl Write) {
+    let mut fixed = fixed(way, rng).into_iter();
     let (mut pixels, mut by_bt709, mut refused) = (0, 0, 0);
     for i in 0..count {
         let (firmware, six) = fixed.next().unwrap_or_else(|| (in_turn(i), random(rng)));
-        let (number, left) = converted(firmware, &six);
+        let (number, left) = converted(way, firmware, &six);
         if number == 0 {
             pixels += six[0].len();
             by_bt709 += if firmware == 4 { six[0].len() } else { 0 };
         }
         refused += (number != 0) as usize;
-        let mut record = Record::new(Kind::Bytes).words(&[firmware]);
+        let mut record = Record::new(way.kind).words(&[firmware]);
         record = record.words(&six.each_ref().map(|channel| channel.len() as u32));
         for channel in &six {
             record = record.packed(channel);
@@ -150,30 +229,49 @@ pub fn write(rng: &mut Rng, count: usize, out: &mut impl Write) {
         }
         record.words(&[number]).write(out);
     }
+    let name = way.name;
     eprintln!(
-        "bytes: {count} conversions of {pixels} pixels, {by_bt709} of them by BT.709, {refused} refused"
+        "{name}: {count} conversions of {pixels} pixels, {by_bt709} of them by BT.709, {refused} refused"
     );
 }
 
-/// Of all 2^24 pixels by each set of weights, a line for each channel out: its digest, and how many are 0 and 255. The
-/// program `every_pixel` writes the same of ours.
-pub fn every() {
-    every_by(3, t871);
-    every_by(4, bt709);
+/// How far each channel moves from RGB to YCbCr and back, modulo 256.
+fn moved(there: fn(Pixel) -> Pixel, back: fn(Pixel) -> Pixel, rgb: Pixel) -> Pixel {
+    let now = back(there(rgb));
+    [0, 1, 2].map(|at| now[at].wrapping_sub(rgb[at]))
 }
 
-fn every_by(firmware: u32, rgb: fn(Pixel) -> Pixel) {
+/// Of all 2^24 pixels by each set of weights, a line for each channel to RGB, back, and for how far it moved: its digest,
+/// and how many are 0 and 255. The program `every_pixel` writes the same of ours.
+pub fn every() {
+    for (firmware, to_rgb, to_ycbcr) in [
+        (
+            3,
+            t871 as fn(Pixel) -> Pixel,
+            t871_back as fn(Pixel) -> Pixel,
+        ),
+        (4, bt709, bt709_back),
+    ] {
+        println!("firmware {firmware}");
+        every_by(["R", "G", "B"], to_rgb);
+        every_by(["Cb", "Y", "Cr"], to_ycbcr);
+        every_by(["R moved", "G moved", "B moved"], |rgb| {
+            moved(to_ycbcr, to_rgb, rgb)
+        });
+    }
+}
+
+fn every_by(names: [&str; 3], convert: impl Fn(Pixel) -> Pixel) {
     let mut digests = [0u64; 3];
     let mut counts = [[0u64; 256]; 3];
     for all in 0..1 << 24 {
-        let out = rgb([(all >> 16) as u8, (all >> 8) as u8, all as u8]);
+        let out = convert([(all >> 16) as u8, (all >> 8) as u8, all as u8]);
         for at in 0..3 {
             digests[at] = (digests[at] * 257 + out[at] as u64 + 1) % 4294967291;
             counts[at][out[at] as usize] += 1;
         }
     }
-    println!("firmware {firmware}");
-    for (at, name) in ["R", "G", "B"].iter().enumerate() {
+    for (at, name) in names.iter().enumerate() {
         println!(
             "{name} {} {} {}",
             digests[at], counts[at][0], counts[at][255]
@@ -181,7 +279,8 @@ fn every_by(firmware: u32, rgb: fn(Pixel) -> Pixel) {
     }
 }
 
-/// Of all 2^24 pixels by each set of weights, how many have a red, a green and a blue half way between two whole numbers.
+/// Of all 2^24 pixels by each set of weights, how many have a red, a green and a blue, and back a Cb, a luma and a Cr, half
+/// way between two whole numbers.
 pub fn census() {
     for (name, n, red, blue, over, of_u, of_v) in [
         ("T.871", 1000, 1402, 1772, 587000, 202008, 419198),
@@ -196,23 +295,29 @@ pub fn census() {
         ),
     ] {
         let tied = |p: i64, q: i64| (2 * p).rem_euclid(2 * q) == q;
-        let mut ties = [0; 3];
+        let (kr, kb) = (n - red / 2, n - blue / 2);
+        let mut ties = [0; 6];
         for all in 0i64..1 << 24 {
-            let (u, y, v) = ((all >> 16) - 128, all >> 8 & 255, (all & 255) - 128);
+            let (first, second, third) = (all >> 16, all >> 8 & 255, all & 255);
+            let (u, y, v) = (first - 128, second, third - 128);
+            let luma = kr * first + (n - kr - kb) * second + kb * third;
             ties[0] += tied(n * y + red * v, n) as u32;
             ties[1] += tied(over * y - of_u * u - of_v * v, over) as u32;
             ties[2] += tied(n * y + blue * u, n) as u32;
+            ties[3] += tied(n * third - luma, blue) as u32;
+            ties[4] += tied(luma, n) as u32;
+            ties[5] += tied(n * first - luma, red) as u32;
         }
         println!(
-            "{name}: {} ties of red, {} of green, {} of blue",
-            ties[0], ties[1], ties[2]
+            "{name}: {} ties of red, {} of green, {} of blue; {} of Cb, {} of luma, {} of Cr",
+            ties[0], ties[1], ties[2], ties[3], ties[4], ties[5]
         );
     }
 }
 
 #[cfg(test)]
 mod tests {
-    use super::{bt709, byte, t871};
+    use super::{bt709, bt709_back, byte, moved, t871, t871_back};
 
     /// The one whole number n with 2qn - q <= 2p < 2qn + q, searched for, and held.
     fn searched(p: i64, q: i64) -> u8 {
@@ -239,5 +344,19 @@ mod tests {
         assert_eq!(t871([0, 0, 0]), [0, 135, 0]);
         assert_eq!(bt709([128, 77, 128]), [77, 77, 77]);
         assert_eq!(bt709([100, 128, 200]), [241, 100, 76]);
+    }
+
+    #[test]
+    fn back() {
+        assert_eq!(t871_back([77, 77, 77]), [128, 77, 128]);
+        assert_eq!(t871_back([0, 0, 255]), [255, 29, 107]);
+        assert_eq!(t871_back([255, 255, 0])[0], 1);
+        assert_eq!(t871_back([0, 12, 4])[1], 8);
+        assert_eq!(t871_back([0, 0, 5]), [131, 1, 128]);
+        assert_eq!(moved(t871_back, t871, [5, 85, 215]), [255, 1, 255]);
+        assert_eq!(bt709_back([77, 77, 77]), [128, 77, 128]);
+        assert_eq!(bt709_back([255, 0, 0]), [99, 54, 255]);
+        assert_eq!(bt709_back([0, 14, 76])[1], 16);
+        assert_eq!(moved(bt709_back, bt709, [55, 15, 5]), [255, 1, 255]);
     }
 }

@@ -29,7 +29,7 @@ mod ycbcr;
 
 use std::io::{BufWriter, Write};
 
-const USAGE: &str = "usage: oracle fused|cbrt|ciexyz|plan|merge|run|strips|ycbcr|block|screen|writing|block-second|writing-versions|handed|bytes|codes|levels \
+const USAGE: &str = "usage: oracle fused|cbrt|ciexyz|plan|merge|run|strips|ycbcr|block|screen|writing|block-second|writing-versions|handed|bytes|bytes-back|codes|levels \
                      SEED COUNT, or oracle cbrt-census, or oracle screen-census, or oracle every-pixel, or oracle tie-census, or oracle codes-census, \
                      or oracle differences";
 
@@ -65,6 +65,7 @@ fn main() {
         "screen" => screen::write(rng, count, out),
         "writing" => writing::write(rng, count, out),
         "bytes" => bytes::write(rng, count, out),
+        "bytes-back" => bytes::write_back(rng, count, out),
         "codes" => srgb10::write_codes(rng, count, out),
         "levels" => srgb10::write_levels(rng, count, out),
         "block-second" => block::write_second(rng, count, out),

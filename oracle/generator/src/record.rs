@@ -30,6 +30,7 @@ pub enum Kind {
     Code = 22,
     Levels = 23,
     Handed = 24,
+    BytesBack = 25,
 }
 
 /// The longest line, with its newline.

@@ -6,25 +6,25 @@ use Rattle.every_pixel.proofs.every.Statement.{statement}
 use Rattle.every_pixel.proofs.every.Tie as tie
 
 abbrev Inv-loop : tie.InvT-loop
-Inv-loop firmware t crs₀ i₀ crs i = i ≤ 256
+Inv-loop way firmware t last₀ i₀ last i = i ≤ 256
 
 abbrev μ-loop : tie.MeasureT-loop
-μ-loop firmware t crs₀ i₀ crs i = 256 - i
+μ-loop way firmware t last₀ i₀ last i = 256 - i
 
 abbrev Inv-loop2 : tie.InvT-loop2
-Inv-loop2 firmware t₀ crs i₀ t i = i ≤ 65536
+Inv-loop2 way firmware t₀ last i₀ t i = i ≤ 65536
 
 abbrev μ-loop2 : tie.MeasureT-loop2
-μ-loop2 firmware t₀ crs i₀ t i = 65536 - i
+μ-loop2 way firmware t₀ last i₀ t i = 65536 - i
 
 loop-holds : tie.Need-loop-holds Inv-loop μ-loop Inv-loop2 μ-loop2
 loop-holds c = search needs
 
-cast-crs : tie.Need-cast-crs Inv-loop μ-loop Inv-loop2 μ-loop2
-cast-crs c = search needs
+cast-last : tie.Need-cast-last Inv-loop μ-loop Inv-loop2 μ-loop2
+cast-last c = search needs
 
-array-write-crs : tie.Need-array-write-crs Inv-loop μ-loop Inv-loop2 μ-loop2
-array-write-crs c = search needs
+array-write-last : tie.Need-array-write-last Inv-loop μ-loop Inv-loop2 μ-loop2
+array-write-last c = search needs
 
 add-i : tie.Need-add-i Inv-loop μ-loop Inv-loop2 μ-loop2
 add-i c = search needs
@@ -68,8 +68,8 @@ every-spec =
     Inv-loop2
     μ-loop2
     loop-holds
-    cast-crs
-    array-write-crs
+    cast-last
+    array-write-last
     add-i
     loop-less
     loop-again
