@@ -8,10 +8,11 @@ use crate::writing;
 use list::Plan;
 use notation::Answer;
 use op::Op;
+use record::Found;
 use record::from_word;
 use strips::State;
 
-fn tells(answer: Answer, words: &[u8]) -> bool {
+pub(crate) fn tells(answer: Answer, words: &[u8]) -> bool {
     answer.number as u32 == record::word(words, 0)
         && answer.position == record::word(words, 1) as usize
         && answer.width as u32 == record::word(words, 2)
@@ -126,17 +127,25 @@ fn answers(list: Plan, words: &[u8]) -> bool {
         && prints(list, from_word(words, 12))
 }
 
-// Start width, list, and a count that may be another than that of the ops which stand in the slots; and what every entry answers, or what
-// is written.
-pub(crate) fn same_handed(words: &[u8], written: bool) -> bool {
+// Start width, list, and a count that may be another than that of the ops which stand in the slots; and the number of the count's word.
+pub(crate) fn list_with_count(words: &[u8]) -> Found {
     let found = record::list_at(words, 0, 1);
+    let mut list = found.list;
+    list.count = record::word(words, found.next) as usize;
+    Found {
+        list,
+        next: found.next,
+    }
+}
+
+// A list with its count; and what every entry answers, or what is written.
+pub(crate) fn same_handed(words: &[u8], written: bool) -> bool {
+    let found = list_with_count(words);
     if found.next == 0 {
         return false;
     }
-    let mut list = found.list;
-    let counted = from_word(words, found.next);
-    list.count = record::word(counted, 0) as usize;
-    let rest = from_word(counted, 1);
+    let list = found.list;
+    let rest = from_word(from_word(words, found.next), 1);
     if written {
         return writing::same_written(list, rest);
     }

@@ -5,6 +5,7 @@ mod codes;
 mod conversions;
 mod cuts; // cuts.rt: runs by strips
 mod handed; // handed.rt: lists as a caller hands them over
+mod joins; // joins.rt: lists that are joined
 mod lists;
 mod matrices;
 mod plans;
@@ -64,6 +65,8 @@ const HANDED: u32 = 24;
 
 const BYTES_BACK: u32 = 25;
 
+const JOIN: u32 = 26;
+
 fn same_matrix(kind: u32, words: &[u8]) -> bool {
     match kind {
         MATMUL3 => matrices::same_matmul3(words),
@@ -103,6 +106,7 @@ pub fn same(line: &[u8]) -> bool {
         CODE => codes::same_code(words),
         LEVELS => codes::same_levels(words),
         HANDED => handed::same_handed(words, false),
+        JOIN => joins::same_joined(words),
         _ => same_matrix(kind, words),
     }
 }

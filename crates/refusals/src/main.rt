@@ -239,10 +239,47 @@ fn codes() {
     );
 }
 
+fn show_join(given: &[u8], first: Plan, second: Plan) {
+    let joined = join::join(first, second);
+    let answer = joined.answer;
+    show(given, list::paper(answer));
+}
+
+fn doubled(plan: Plan) -> Plan {
+    let joined = join::join(plan, plan);
+    joined.plan
+}
+
+// 10 and 5, in the first list, between the two, and in the second.
+fn joins() {
+    let clip = list::push(list::empty(3), Op::Clip);
+    let clips = doubled(clip);
+    let luma = list::push(clips, Op::XyzToLuma);
+    let again = list::push(luma, Op::XyzToLuma);
+    let all = doubled(doubled(doubled(doubled(clips))));
+    show_join(b"a list of 32 ops joined to one of a single op", all, clip);
+    show_join(
+        b"two Clips, XyzToLuma and again XyzToLuma joined to a Clip",
+        again,
+        clip,
+    );
+    show_join(
+        b"two Clips and XyzToLuma joined to a list that starts with three channels",
+        luma,
+        clip,
+    );
+    show_join(
+        b"two Clips joined to two Clips, XyzToLuma and again XyzToLuma",
+        clips,
+        again,
+    );
+}
+
 fn main() {
     plans();
     runs();
     handed();
+    joins();
     blocks();
     strips();
     writings();

@@ -30,7 +30,7 @@ last-gives : (xs : List Op) (o : Op) {u v w : ℕ} → Fits u (xs ++ (o ∷ []))
 last-gives [] o (more k none) none = step-gives k
 last-gives (x ∷ xs) o {v = v} (more k f) (more l g) = last-gives xs o f (subst (λ (t : ℕ). Fits t xs v) (sym (step-gives l) ∙ step-gives k) g)
 
-ops-even : (w : ℕ) (os : List Op) (s : Channels) → EquallyLong s → EquallyLong (runOps w os s)
+pub ops-even : (w : ℕ) (os : List Op) (s : Channels) → EquallyLong s → EquallyLong (runOps w os s)
 ops-even w [] s e = e
 ops-even w (o ∷ os) s e = ops-even (givesOf o w) os (afterOp o w s) (after-even o w s e)
 

@@ -207,6 +207,38 @@ fn office(title: &[u8], version: u16) {
     show_plan(b" bytes; read by the portal\n", sent);
 }
 
+// The three samples of the picture, run by one list and then by another, as grey bytes for a screen.
+fn show_grey(title: &[u8], first: Plan, second: Plan) {
+    let mut a: [f32; 3] = [0.0, 0.01979, 0.0];
+    let mut b: [f32; 3] = [0.8453, 0.37586, 0.0];
+    let mut c: [f32; 3] = [0.8453, 0.36405, 0.0];
+    run::run(first, &mut a, &mut b, &mut c);
+    run::run(second, &mut a, &mut b, &mut c);
+    io::write_all(STDOUT_FILENO, title);
+    print_sample(a[0], a[1], a[2]);
+}
+
+// The portal's plan of the picture joined to that of a screen with one channel.
+fn joined() {
+    let xyb = side(ColourSpace::Xyb, WhitePoint::D65, Curve::Linear);
+    let rgb = side(ColourSpace::Rgb, WhitePoint::D65, Curve::Linear);
+    let grey = side(ColourSpace::Grey, WhitePoint::D65, Curve::Linear);
+    let to_rgb = planner::plan(xyb, rgb, settings(255.0, false));
+    let to_grey = planner::plan(rgb, grey, settings(255.0, false));
+    let portal = to_rgb.plan;
+    let screen = to_grey.plan;
+    let one = join::join(portal, screen);
+    let answer = one.answer;
+    if list::paper(answer).number != 0 {
+        io::write_all(STDOUT_FILENO, b"the join is refused\n");
+        return;
+    }
+    let plan = one.plan;
+    show_plan(b"\nXyb to Rgb, joined to Rgb to Grey\n", plan);
+    show_grey(b"the joined list: ", plan, list::empty(1));
+    show_grey(b"one after the other: ", portal, screen);
+}
+
 fn main() {
     picture();
     custom_white();
@@ -218,4 +250,5 @@ fn main() {
     pq_to_hlg(b"\nPq to Hlg, the next above 1001\n", 1001.00006);
     office(b"\nXyb to Rgb, written by the office in version 1: ", 1);
     office(b"\nXyb to Rgb, written by the office in version 2: ", 2);
+    joined();
 }

@@ -12,6 +12,7 @@ mod firmware;
 mod floats;
 mod fused;
 mod handed;
+mod join;
 mod libm;
 mod lists;
 mod merge;
@@ -29,7 +30,7 @@ mod ycbcr;
 
 use std::io::{BufWriter, Write};
 
-const USAGE: &str = "usage: oracle fused|cbrt|ciexyz|plan|merge|run|strips|ycbcr|block|screen|writing|block-second|writing-versions|handed|bytes|bytes-back|codes|levels \
+const USAGE: &str = "usage: oracle fused|cbrt|ciexyz|plan|merge|run|strips|ycbcr|block|screen|writing|block-second|writing-versions|handed|join|bytes|bytes-back|codes|levels \
                      SEED COUNT, or oracle cbrt-census, or oracle screen-census, or oracle every-pixel, or oracle tie-census, or oracle codes-census, \
                      or oracle differences";
 
@@ -71,6 +72,7 @@ fn main() {
         "block-second" => block::write_second(rng, count, out),
         "writing-versions" => writing::write_versions(rng, count, out),
         "handed" => handed::write(rng, count, out),
+        "join" => join::write(rng, count, out),
         _ => panic!("{USAGE}"),
     }
     out.flush().expect("standard output");

@@ -31,6 +31,7 @@ pub enum Kind {
     Levels = 23,
     Handed = 24,
     BytesBack = 25,
+    Join = 26,
 }
 
 /// The longest line, with its newline.

@@ -1,0 +1,2 @@
+-- Two lists for which merging the second beforehand matters.
+pub mod Pair
