@@ -16,6 +16,12 @@ use Rattle.c_api.proofs.rindsaddle_rgb_bytes.Reads as rgb-bytes
 use Rattle.c_api.proofs.rindsaddle_rgb_bytes.Kinds as rgb-bytes-kinds
 use Rattle.c_api.proofs.rindsaddle_code_levels.Reads as code-levels
 use Rattle.c_api.proofs.rindsaddle_code_levels.Kinds as code-levels-kinds
+use Rattle.c_api.proofs.rindsaddle_widen.Reads as widen
+use Rattle.c_api.proofs.rindsaddle_widen.Kinds as widen-kinds
+use Rattle.c_api.proofs.rindsaddle_narrow.Reads as narrow
+use Rattle.c_api.proofs.rindsaddle_narrow.Kinds as narrow-kinds
+use Rattle.c_api.proofs.rindsaddle_line_bytes.Reads as line-bytes
+use Rattle.c_api.proofs.rindsaddle_line_bytes.Kinds as line-bytes-kinds
 
 pub mul-add-determines : Determines 0 mul-add-kinds.ps mul-add-kinds.r mul-add.Post (λ κs r s. r)
 mul-add-determines κs a x y s t p q = p ∙ sym q
@@ -46,3 +52,21 @@ code-levels-determines κs a x y s t p q = p .0 ∙ sym (q .0)
 
 pub code-levels-levels-determines : Determines 2 code-levels-kinds.ps code-levels-kinds.r code-levels.Post (λ κs r s. now (s .1 .0))
 code-levels-levels-determines κs a x y s t p q = p .1 ∙ sym (q .1)
+
+pub widen-determines : Determines 2 widen-kinds.ps widen-kinds.r widen.Post (λ κs r s. r)
+widen-determines κs a x y s t p q = p .0 ∙ sym (q .0)
+
+pub widen-line-determines : Determines 2 widen-kinds.ps widen-kinds.r widen.Post (λ κs r s. now (s .1 .0))
+widen-line-determines κs a x y s t p q = p .1 ∙ sym (q .1)
+
+pub narrow-determines : Determines 2 narrow-kinds.ps narrow-kinds.r narrow.Post (λ κs r s. r)
+narrow-determines κs a x y s t p q = p .0 ∙ sym (q .0)
+
+pub narrow-line-determines : Determines 2 narrow-kinds.ps narrow-kinds.r narrow.Post (λ κs r s. now (s .1 .0))
+narrow-line-determines κs a x y s t p q = p .1 ∙ sym (q .1)
+
+pub line-bytes-determines : Determines 6 line-bytes-kinds.ps line-bytes-kinds.r line-bytes.Post (λ κs r s. r)
+line-bytes-determines κs a x y s t p q = p .0 ∙ sym (q .0)
+
+pub line-bytes-channels-determines : Determines 6 line-bytes-kinds.ps line-bytes-kinds.r line-bytes.Post (λ κs r s. planes (now (s .1 .1 .1 .1 .0)) (now (s .1 .1 .1 .1 .1 .0)) (now (s .1 .1 .1 .1 .1 .1 .0)))
+line-bytes-channels-determines κs a x y s t p q = p .1 ∙ sym (q .1)

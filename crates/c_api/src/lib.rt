@@ -10,6 +10,8 @@ ghost use Rattle.firmware.specs.Firmware.{weightsOf};
 ghost use Rattle.firmware.specs.Conversion.{conversionOf, leftBy, paper as paperOf};
 ghost use Rattle.planes.specs.Planes.{eachPixel, equallyLong, planes};
 ghost use Rattle.srgb10_levels.specs.Levelling.{levellingOf, leftOf, paper as paperOfLevels};
+ghost use Rattle.half.specs.Fitting.{narrowedInto, narrowing, paper as paperOfHalf, widenedInto, widening};
+ghost use Rattle.half_line.specs.Line.{lineFits, widenedBoth};
 
 #[no_mangle]
 pub extern "C" fn rindsaddle_mul_add(a: f32, b: f32, c: f32) -> f32
@@ -76,4 +78,39 @@ pub extern "C" fn rindsaddle_code_levels(codes: &[u16], levels: &mut [f32]) -> u
     ensures { λ _. ⌜ now (levels .exit) ≡ leftOf (now (codes .entry)) (now (levels .entry)) ⌝ }
 {
     srgb10_levels::paper(srgb10_levels::code_levels(codes, levels)).number
+}
+
+// 0, or the number of the refusal.
+#[no_mangle]
+pub extern "C" fn rindsaddle_widen(line: &[u8], out: &mut [u8]) -> u8
+    ensures { λ r. ⌜ r ≡ paperOfHalf (widening (now (line .entry)) (now (out .entry))) .number ⌝ }
+    ensures { λ _. ⌜ now (out .exit) ≡ widenedInto (now (line .entry)) (now (out .entry)) ⌝ }
+{
+    half::paper(half::widen(line, out)).number
+}
+
+// 0, or the number of the refusal.
+#[no_mangle]
+pub extern "C" fn rindsaddle_narrow(line: &[u8], out: &mut [u8]) -> u8
+    ensures { λ r. ⌜ r ≡ paperOfHalf (narrowing (now (line .entry)) (now (out .entry))) .number ⌝ }
+    ensures { λ _. ⌜ now (out .exit) ≡ narrowedInto (now (line .entry)) (now (out .entry)) ⌝ }
+{
+    half::paper(half::narrow(line, out)).number
+}
+
+// Cb and Cr at half width and Y in; R, G, B out. 0, or the number of the refusal.
+#[no_mangle]
+pub extern "C" fn rindsaddle_line_bytes(
+    firmware: u32,
+    cb: &[u8],
+    y: &[u8],
+    cr: &[u8],
+    r: &mut [u8],
+    g: &mut [u8],
+    b: &mut [u8],
+) -> u8
+    ensures { λ a. ⌜ a ≡ paperOf (conversionOf firmware (lineFits (planes (now (cb .entry)) (now (y .entry)) (now (cr .entry))) (planes (now (r .entry)) (now (g .entry)) (now (b .entry))))) .number ⌝ }
+    ensures { λ _. ⌜ planes (now (r .exit)) (now (g .exit)) (now (b .exit)) ≡ leftBy (conversionOf firmware (lineFits (planes (now (cb .entry)) (now (y .entry)) (now (cr .entry))) (planes (now (r .entry)) (now (g .entry)) (now (b .entry))))) (eachPixel (rgbOf (weightsOf firmware)) (widenedBoth (planes (now (cb .entry)) (now (y .entry)) (now (cr .entry))))) (planes (now (r .entry)) (now (g .entry)) (now (b .entry))) ⌝ }
+{
+    firmware::paper(half_line::line_to_rgb(firmware, cb, y, cr, r, g, b)).number
 }

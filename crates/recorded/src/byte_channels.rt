@@ -1,4 +1,4 @@
-// YCbCr to RGB over bytes, and back: the firmware, the lengths of the three channels in, a, b, c, and out, d, e, f, their bytes, four to a word; the bytes
+// YCbCr to RGB over bytes, of a line with chroma at half width too, and back: the firmware, the lengths of the three channels in, a, b, c, and out, d, e, f, their bytes, four to a word; the bytes
 // of those out after, and the number.
 ghost use Prim.Native.Nat.{_≤_};
 use crate::blocks::byte_at;
@@ -9,11 +9,11 @@ use record::from_word;
 pub(crate) const ROOM: usize = 256;
 
 // The words after those of n bytes.
-fn past(words: &[u8], n: usize) -> &[u8] {
+pub(crate) fn past(words: &[u8], n: usize) -> &[u8] {
     from_word(words, n / 4 + (n % 4 + 3) / 4)
 }
 
-fn same_bytes(words: &[u8], bytes: &[u8]) -> bool {
+pub(crate) fn same_bytes(words: &[u8], bytes: &[u8]) -> bool {
     let mut i: usize = 0;
     while i < bytes.len() {
         if bytes[i] != byte_at(words, i) {
@@ -49,9 +49,9 @@ fn read_three(words: &[u8], a: &mut [u8], b: &mut [u8], c: &mut [u8]) {
     read_bytes(at_c, c);
 }
 
-// To YCbCr where `back` says so, else to RGB; the number.
+// The conversion that this kind of record is of; the number.
 fn convert(
-    back: bool,
+    kind: u32,
     firmware: u32,
     a: &[u8],
     b: &[u8],
@@ -60,15 +60,18 @@ fn convert(
     e: &mut [u8],
     f: &mut [u8],
 ) -> u8 {
-    if back {
+    if kind == crate::BYTES_BACK {
         return firmware::paper(rgb_bytes::rgb_to_ycbcr(firmware, a, b, c, d, e, f)).number;
+    }
+    if kind == crate::LINE {
+        return firmware::paper(half_line::line_to_rgb(firmware, a, b, c, d, e, f)).number;
     }
     firmware::paper(ycbcr_bytes::ycbcr_to_rgb(firmware, a, b, c, d, e, f)).number
 }
 
 // Reads the channels out, converts and compares what is answered and left with the answer's.
 fn converts(
-    back: bool,
+    kind: u32,
     firmware: u32,
     words: &[u8],
     a: &[u8],
@@ -80,12 +83,12 @@ fn converts(
 ) -> bool {
     let answer = past_three(words, d.len(), e.len(), f.len());
     read_three(words, d, e, f);
-    let number = convert(back, firmware, a, b, c, d, e, f);
+    let number = convert(kind, firmware, a, b, c, d, e, f);
     left(answer, d, e, f, number)
 }
 
 fn reads(
-    back: bool,
+    kind: u32,
     firmware: u32,
     words: &[u8],
     a: &mut [u8],
@@ -97,7 +100,7 @@ fn reads(
 ) -> bool {
     let outs = past_three(words, a.len(), b.len(), c.len());
     read_three(words, a, b, c);
-    converts(back, firmware, outs, a, b, c, d, e, f)
+    converts(kind, firmware, outs, a, b, c, d, e, f)
 }
 
 // A length that the record gives, or 0 where there is no room for it.
@@ -111,7 +114,7 @@ pub(crate) fn length(words: &[u8], k: usize) -> usize
     n
 }
 
-pub(crate) fn same_conversion(words: &[u8], back: bool) -> bool {
+pub(crate) fn same_conversion(words: &[u8], kind: u32) -> bool {
     let n_a = length(words, 1);
     let n_b = length(words, 2);
     let n_c = length(words, 3);
@@ -125,7 +128,7 @@ pub(crate) fn same_conversion(words: &[u8], back: bool) -> bool {
     let mut e = [0u8; ROOM];
     let mut f = [0u8; ROOM];
     reads(
-        back,
+        kind,
         record::word(words, 0),
         from_word(words, 7),
         &mut a[..n_a],

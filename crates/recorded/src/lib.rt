@@ -4,6 +4,7 @@ mod byte_channels;
 mod codes;
 mod conversions;
 mod cuts; // cuts.rt: runs by strips
+mod halves; // halves.rt: lines widened and narrowed
 mod handed; // handed.rt: lists as a caller hands them over
 mod joins; // joins.rt: lists that are joined
 mod lists;
@@ -67,6 +68,10 @@ const BYTES_BACK: u32 = 25;
 
 const JOIN: u32 = 26;
 
+const HALF: u32 = 27;
+
+const LINE: u32 = 28;
+
 fn same_matrix(kind: u32, words: &[u8]) -> bool {
     match kind {
         MATMUL3 => matrices::same_matmul3(words),
@@ -101,12 +106,14 @@ pub fn same(line: &[u8]) -> bool {
         BLOCK => blocks::same_block(words),
         SCREEN => screens::same_screen(words),
         WRITING => handed::same_handed(words, true),
-        BYTES => byte_channels::same_conversion(words, false),
-        BYTES_BACK => byte_channels::same_conversion(words, true),
+        BYTES => byte_channels::same_conversion(words, kind),
+        BYTES_BACK => byte_channels::same_conversion(words, kind),
+        LINE => byte_channels::same_conversion(words, kind),
         CODE => codes::same_code(words),
         LEVELS => codes::same_levels(words),
         HANDED => handed::same_handed(words, false),
         JOIN => joins::same_joined(words),
+        HALF => halves::same_half(words),
         _ => same_matrix(kind, words),
     }
 }

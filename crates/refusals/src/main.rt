@@ -230,6 +230,15 @@ fn conversions() {
     );
 }
 
+// 4 again.
+fn lines() {
+    let mut out = [0u8; 8];
+    show(
+        b"five chroma bytes widened to eight",
+        half::paper(half::widen(&[90, 100, 110, 120, 130], &mut out)),
+    );
+}
+
 // 14.
 fn codes() {
     let mut levels: [f32; 2] = [0.0, 0.0];
@@ -284,5 +293,6 @@ fn main() {
     strips();
     writings();
     conversions();
+    lines();
     codes();
 }

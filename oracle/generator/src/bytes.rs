@@ -10,7 +10,7 @@ type Pixel = [u8; 3];
 
 /// "the nearest whole number to that exact fraction, halves upward (below zero too), then held
 /// within 0 to 255" (02, W5): the whole number at or below p/q + 1/2.
-fn byte(p: i64, q: i64) -> u8 {
+pub fn byte(p: i64, q: i64) -> u8 {
     (2 * p + q).div_euclid(2 * q).clamp(0, 255) as u8
 }
 
@@ -59,7 +59,7 @@ fn bt709_back([r, g, b]: Pixel) -> Pixel {
 }
 
 /// A conversion by each set of weights, its kind of record, and pixels half way.
-struct Way {
+pub struct Way {
     kind: Kind,
     name: &'static str,
     t871: fn(Pixel) -> Pixel,
@@ -67,7 +67,7 @@ struct Way {
     ties: fn() -> Vec<Pixel>,
 }
 
-const TO_RGB: Way = Way {
+pub const TO_RGB: Way = Way {
     kind: Kind::Bytes,
     name: "bytes",
     t871,
@@ -84,9 +84,9 @@ const TO_YCBCR: Way = Way {
 };
 
 /// The six lent channels: three in, three out.
-type Lent = [Vec<u8>; 6];
+pub type Lent = [Vec<u8>; 6];
 
-fn lent(rng: &mut Rng, lengths: [usize; 6]) -> Lent {
+pub fn lent(rng: &mut Rng, lengths: [usize; 6]) -> Lent {
     lengths.map(|length| (0..length).map(|_| rng.below(256) as u8).collect())
 }
 
@@ -100,7 +100,7 @@ fn of_pixels(rng: &mut Rng, pixels: &[Pixel]) -> Lent {
 }
 
 /// The number, and the three channels out as they are left.
-fn converted(way: &Way, firmware: u32, [a, b, c, d, e, f]: &Lent) -> (u32, [Vec<u8>; 3]) {
+pub fn converted(way: &Way, firmware: u32, [a, b, c, d, e, f]: &Lent) -> (u32, [Vec<u8>; 3]) {
     let equal = [b, c, d, e, f].iter().all(|other| other.len() == a.len());
     let judged = judged(firmware, equal);
     let convert = match judged {
@@ -200,6 +200,16 @@ fn random(rng: &mut Rng) -> Lent {
     lent(rng, lengths)
 }
 
+/// The six channels, those out as they are left, and the number.
+pub fn record(kind: Kind, firmware: u32, six: &Lent, left: &[Vec<u8>; 3], number: u32) -> Record {
+    let lengths = six.each_ref().map(|channel| channel.len() as u32);
+    let head = Record::new(kind).words(&[firmware]).words(&lengths);
+    six.iter()
+        .chain(left)
+        .fold(head, |record, channel| record.packed(channel))
+        .words(&[number])
+}
+
 pub fn write(rng: &mut Rng, count: usize, out: &mut impl Write) {
     write_way(&TO_RGB, rng, count, out);
 }
@@ -219,15 +229,7 @@ fn write_way(way: &Way, rng: &mut Rng, count: usize, out: &mut impl Write) {
             by_bt709 += if firmware == 4 { six[0].len() } else { 0 };
         }
         refused += (number != 0) as usize;
-        let mut record = Record::new(way.kind).words(&[firmware]);
-        record = record.words(&six.each_ref().map(|channel| channel.len() as u32));
-        for channel in &six {
-            record = record.packed(channel);
-        }
-        for channel in &left {
-            record = record.packed(channel);
-        }
-        record.words(&[number]).write(out);
+        record(way.kind, firmware, &six, &left, number).write(out);
     }
     let name = way.name;
     eprintln!(

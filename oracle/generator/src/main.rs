@@ -11,6 +11,7 @@ mod encodings;
 mod firmware;
 mod floats;
 mod fused;
+mod half;
 mod handed;
 mod join;
 mod libm;
@@ -30,7 +31,7 @@ mod ycbcr;
 
 use std::io::{BufWriter, Write};
 
-const USAGE: &str = "usage: oracle fused|cbrt|ciexyz|plan|merge|run|strips|ycbcr|block|screen|writing|block-second|writing-versions|handed|join|bytes|bytes-back|codes|levels \
+const USAGE: &str = "usage: oracle fused|cbrt|ciexyz|plan|merge|run|strips|ycbcr|block|screen|writing|block-second|writing-versions|handed|join|bytes|bytes-back|codes|levels|half|lines \
                      SEED COUNT, or oracle cbrt-census, or oracle screen-census, or oracle every-pixel, or oracle tie-census, or oracle codes-census, \
                      or oracle differences";
 
@@ -67,6 +68,8 @@ fn main() {
         "writing" => writing::write(rng, count, out),
         "bytes" => bytes::write(rng, count, out),
         "bytes-back" => bytes::write_back(rng, count, out),
+        "half" => half::write(rng, count, out),
+        "lines" => half::write_lines(rng, count, out),
         "codes" => srgb10::write_codes(rng, count, out),
         "levels" => srgb10::write_levels(rng, count, out),
         "block-second" => block::write_second(rng, count, out),

@@ -32,6 +32,8 @@ pub enum Kind {
     Handed = 24,
     BytesBack = 25,
     Join = 26,
+    Half = 27,
+    Line = 28,
 }
 
 /// The longest line, with its newline.

@@ -1,30 +1,18 @@
 -- `ycbcr_to_rgb` converts each pixel where `judge` lets it, and changes nothing where it does not.
--- The answer Done gives the lengths; the factors are those of the firmware's weights, which are short, so that a pixel by them is `rgbOf`.
+-- The answer Done gives the lengths; a pixel by the factors of the firmware's weights is `rgbOf` (`ByFirmware`).
 use Prim.Native.Nat.{ℕ}
 use mathlib.Core.Path.{_≡_, ap, sym, _∙_}
-use mathlib.Core.Bool.{Bool, true, false}
 use borrow.Author.Needs.{needs}
-use lib.Dec.{eqb}
-use Rattle.notation.specs.Choice.{if_then_else_}
-use Rattle.weights.specs.Weights.{bt709, t871}
 use Rattle.weights.specs.Rgb.{rgbOf}
 use Rattle.firmware.specs.Firmware.{weightsOf}
 use Rattle.firmware.specs.Conversion.{conversionOf}
 use Rattle.firmware.proofs.Exactly.{done-equal}
 use Rattle.pixel.specs.Factors.{factorsOf, rgbBy}
-use Rattle.pixel.proofs.Weighed.{Short, by-factors, short-bt709, short-t871}
 use Rattle.planes.specs.Planes.{Planes, equallyLong, planes}
 use Rattle.planes.proofs.Exactly.{equal-exactly}
+use Rattle.ycbcr_bytes.proofs.ByFirmware.{by-firmware}
 use Rattle.ycbcr_bytes.proofs.ycbcr_to_rgb.Statement.{statement}
 use Rattle.ycbcr_bytes.proofs.ycbcr_to_rgb.Tie as tie
-
--- both sets of weights are short
-short-of : (firmware : ℕ) → Short (weightsOf firmware)
-short-of firmware = by (eqb firmware 4)
-  where
-    by : (is-four : Bool) → Short (if is-four then bt709 else t871)
-    by true = short-bt709
-    by false = short-t871
 
 -- the firmware, the channels in and out, and what is answered for them
 abbrev named : tie.After-judge → ℕ
@@ -82,8 +70,7 @@ returns c =
     let t = d .before .before in
     let j = t .before .before in
     let e = sym (t .enum-told .given .1) ∙ judged j in
-    let w = weightsOf (named j) in
-    let f : rgbBy (d .factors-of .result) ≡ rgbOf w = ap rgbBy (d .factors-of .ensures ∙ ap factorsOf (d .before .weights-of .ensures)) ∙ by-factors w (short-of (named j)) in
+    let f : rgbBy (d .factors-of .result) ≡ rgbOf (weightsOf (named j)) = ap rgbBy (d .factors-of .ensures ∙ ap factorsOf (d .before .weights-of .ensures)) ∙ by-firmware (named j) in
     (e, rw (sym e, sym f) (a .rgb-each .ensures))
 
 returns-2 : tie.Need-returns-2
