@@ -3,7 +3,7 @@
 use Prim.Native.Nat.{_<_, suc, zero, ℕ}
 use mathlib.Core.Path.{ap, refl, sym, _∙_, _≡_}
 use mathlib.Core.List.{List, [], map, _∷_}
-use native.Mathlib.Nat.{le-of-eq, le-of-suc-le-suc, lt-of-lt-of-le, not-suc-le-zero}
+use native.Mathlib.Nat.{le-of-eq, le-of-suc-le-suc, lt-of-lt-of-le, not-suc-le-zero, suc-inj, zero-lt-suc}
 use native.Mathlib.Omega.{arith}
 use lib.ListN.{getD, length, length-map}
 use Rattle.notation.proofs.Elements.{map-at}
@@ -23,6 +23,14 @@ module _ {A P : Type 0} (of : A → A → A → P) where
   row-at (a ∷ x) (b ∷ y) [] i d r h p q = absurd (omega arith)
   row-at (a ∷ x) (b ∷ y) (c ∷ z) zero d r h p q = refl
   row-at (a ∷ x) (b ∷ y) (c ∷ z) (suc i) d r h p q = row-at x y z i d r (le-of-suc-le-suc h) (omega arith) (omega arith)
+
+  -- two functions that agree on every row
+  pub rows-agree : (f g : P → P) (d : A) (x y z : List A) → length y ≡ length x → length z ≡ length x → ((i : ℕ) → i < length x → f (of (getD x i d) (getD y i d) (getD z i d)) ≡ g (of (getD x i d) (getD y i d) (getD z i d)))
+      → map f (zip3 of x y z) ≡ map g (zip3 of x y z)
+  rows-agree f g d [] y z p q h = refl
+  rows-agree f g d (a ∷ x) [] z p q h = absurd (omega arith)
+  rows-agree f g d (a ∷ x) (b ∷ y) [] p q h = absurd (omega arith)
+  rows-agree f g d (a ∷ x) (b ∷ y) (c ∷ z) p q h = (λ i. h 0 (zero-lt-suc (length x)) i ∷ rows-agree f g d x y z (suc-inj p) (suc-inj q) (λ i l. h (suc i) (omega arith)) i)
 
   -- one part of f of every row
   module _ (f : P → P) (x y z : List A) (p : length y ≡ length x) (q : length z ≡ length x) (part : P → A) where

@@ -1,5 +1,6 @@
-// Three lent channels: whether they are equally long, and what an op's own step on them answers.
+// Three lent channels: whether they are equally long, in which pieces a loop goes over them, and what an op's own step on them answers.
 ghost use mathlib.Core.Path.{_≡_};
+ghost use Prim.Native.Nat.{min};
 ghost use Rattle.channels.specs.Channels.{sameLengths};
 ghost use Rattle.channels.specs.Stepping.{paper};
 use notation::Answer;
@@ -37,4 +38,11 @@ pub fn same_lengths(a: usize, b: usize, c: usize) -> bool
         return a == c;
     }
     false
+}
+
+// How many samples the next piece has, of those that are left: what stands beside it has room on the stack.
+pub fn next_piece(left: usize) -> usize
+    ensures { λ r. ⌜ r ≡ min left 256 ⌝ }
+{
+    if left < 256 { left } else { 256 }
 }

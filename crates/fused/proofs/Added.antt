@@ -13,7 +13,7 @@ use lib.Ieee.Scale.{round-same}
 use Rattle.binary32.proofs.Pattern.{together}
 use Rattle.binary32.specs.Pattern.{withSign}
 use Rattle.fused.proofs.Settled.{topped}
-use Rattle.fused.proofs.Sums.{sum-less, sum-like, sum-more, sum-none, sum-same}
+use Rattle.rounding.proofs.Sums.{sum-less, sum-like, sum-more, sum-none, sum-same}
 use Rattle.fused.specs.Steps.{Topped, Under, sized}
 
 -- with 14 zeros or more at its end, m has a half that has 13

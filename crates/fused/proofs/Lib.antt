@@ -1,11 +1,10 @@
--- Laws behind `mul_add`, from whole numbers up to `fused`; the facts of the spec; and that the contract determines the answer.
-pub mod Closest
-pub mod Rounding
+-- Laws behind `mul_add`, from whole numbers up to `fused`, and by f64; the facts of the spec; and that the contract determines the answer.
 pub mod Shifts
-pub mod Sums
+pub mod Jammed
 pub mod Settled
 pub mod Added
 pub mod Special
 pub mod Product
+pub mod Twice
 pub mod Readings
 pub mod Determined

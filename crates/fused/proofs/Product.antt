@@ -8,7 +8,7 @@ use lib.Pow.{pow-add, pow-pos}
 use lib.Ieee.{Float, binary32, down, fin, inf, nan, sum, unlike, up}
 use lib.Ieee.Exact.{HasValue}
 use lib.Ieee.Fits.{down-pos}
-use Rattle.fused.proofs.Sums.{sum-same}
+use Rattle.rounding.proofs.Sums.{sum-same}
 use Rattle.fused.specs.Fused.{fused, plus}
 
 first-part : (M N i K A B e d : ℕ) → M * K ≡ A * e → N * K ≡ B * d → M * N * i * (K * K) ≡ A * B * (e * d * i)

@@ -13,8 +13,8 @@ use lib.Ieee.Nearest.{closest}
 use lib.Ieee.Scale.{round-same}
 use Rattle.binary32.proofs.Pattern.{infinity, together, units-over}
 use Rattle.binary32.specs.Pattern.{withSign}
-use Rattle.fused.proofs.Closest.{closest-ge, closest-le, closest-zero}
-use Rattle.fused.proofs.Rounding.{round-final}
+use Rattle.rounding.proofs.Closest.{closest-ge, closest-le, closest-zero}
+use Rattle.rounding.proofs.Rounding.{round-final}
 use Rattle.fused.specs.Steps.{Topped}
 
 module _ (s : Bool) (m e : ℕ) (lo : 0x2000_0000_0000_0000 ≤ m) (hi : m < 0x4000_0000_0000_0000) where

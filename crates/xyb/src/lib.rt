@@ -1,29 +1,16 @@
 // The inversion of XYB, after src/xyb.rs: X, Y, B samples become mixed L, M, S.
+mod cube;
+mod piece;
+mod window;
+
 ghost use mathlib.Core.Path.{_≡_};
-ghost use Rattle.channels.specs.Channels.{channels, each, whereEqual};
+ghost use Rattle.channels.specs.Channels.{EquallyLong, channels, each, whereEqual};
 ghost use Rattle.channels.specs.Stepping.{stepOf};
-ghost use Rattle.xyb.specs.Xyb.{mixed, mixedBy, rootsOf, mixedLms};
+ghost use Rattle.xyb.specs.Xyb.{mixedBy, mixedLms, rootsOf};
 ghost use Rattle.counts.specs.Bad.{steppedOf};
 use channels::Stepping;
 use ciexyz::Vec3;
 use counts::Stepped;
-
-fn gamma3(root: f32, bias: f32, scale: f32, g: f32) -> f32
-    ensures { λ r. ⌜ r ≡ mixed root bias scale g ⌝ }
-{
-    let g = g - root;
-    fused::mul_add(g * g, g, bias) * scale
-}
-
-fn inverted(roots: Vec3, bias: Vec3, scale: f32, xyb: Vec3) -> Vec3
-    ensures { λ r. ⌜ r ≡ mixedBy roots bias scale xyb ⌝ }
-{
-    Vec3 {
-        v0: gamma3(roots.v0, bias.v0, scale, xyb.v1 + xyb.v0),
-        v1: gamma3(roots.v1, bias.v1, scale, xyb.v1 - xyb.v0),
-        v2: gamma3(roots.v2, bias.v2, scale, xyb.v2),
-    }
-}
 
 fn roots_of(bias: Vec3) -> Vec3
     ensures { λ r. ⌜ r ≡ rootsOf bias ⌝ }
@@ -32,6 +19,36 @@ fn roots_of(bias: Vec3) -> Vec3
         v0: cbrt::cbrt(bias.v0),
         v1: cbrt::cbrt(bias.v1),
         v2: cbrt::cbrt(bias.v2),
+    }
+}
+
+// By pieces of 256 samples at most, whose squares have room on the stack.
+fn inverted(roots: Vec3, bias: Vec3, scale: f32, x: &mut [f32], y: &mut [f32], b: &mut [f32])
+    requires { ⌜ EquallyLong (channels (now x) (now y) (now b)) ⌝ }
+    ensures { λ _. ⌜ channels (now (x .exit)) (now (y .exit)) (now (b .exit)) ≡ each (mixedBy roots bias scale) (channels (now (x .entry)) (now (y .entry)) (now (b .entry))) ⌝ }
+{
+    let near = window::are_biases(bias);
+    let mut p = [0.0f32; 256];
+    let mut q = [0.0f32; 256];
+    let mut r = [0.0f32; 256];
+    let n = x.len();
+    let mut j: usize = 0;
+    while j < n {
+        let m = channels::next_piece(n - j);
+        let e = j + m;
+        piece::inverted(
+            roots,
+            bias,
+            scale,
+            near,
+            &mut x[j..e],
+            &mut y[j..e],
+            &mut b[j..e],
+            &mut p[0..m],
+            &mut q[0..m],
+            &mut r[0..m],
+        );
+        j = e;
     }
 }
 
@@ -51,19 +68,7 @@ pub fn xyb_to_mixed_lms_samples(
     }
     let roots = roots_of(opsin_bias);
     let scale = 255.0 / intensity_target;
-    let mut i: usize = 0;
-    while i < x.len() {
-        let xyb = Vec3 {
-            v0: x[i],
-            v1: y[i],
-            v2: b[i],
-        };
-        let lms = inverted(roots, opsin_bias, scale, xyb);
-        x[i] = lms.v0;
-        y[i] = lms.v1;
-        b[i] = lms.v2;
-        i += 1;
-    }
+    inverted(roots, opsin_bias, scale, x, y, b);
     Stepping::Done { width: 3 }
 }
 

@@ -1,10 +1,13 @@
 // YCbCr to RGB, after src/ycbcr.rs, by the weights that a firmware means.
+mod one_pixel;
+mod piece;
+
 ghost use mathlib.Core.Path.{_≡_};
 ghost use Rattle.channels.specs.Channels.{EquallyLong, channels, each, equallyLong};
 ghost use Rattle.firmware.specs.Firmware.{weightsOf};
 ghost use Rattle.firmware.specs.Conversion.{conversionOf, leftBy};
+ghost use Rattle.ycbcr.specs.Steps.{Factors};
 ghost use Rattle.ycbcr.specs.Ycbcr.{constantsOf, part, rgbBy, rgbOf};
-use ciexyz::Vec3;
 use firmware::Conversion;
 use weights::Weights;
 
@@ -44,36 +47,30 @@ fn constants_of(w: Weights) -> Constants
     }
 }
 
-fn rgb(k: Constants, cbycr: Vec3) -> Vec3
-    ensures { λ r. ⌜ r ≡ rgbBy k cbycr ⌝ }
-{
-    let cb = cbycr.v0;
-    let y = cbycr.v1 + 128.0 / 255.0;
-    let cr = cbycr.v2;
-    let with_cr = fused::mul_add(cr, k.cr, y);
-    Vec3 {
-        v0: fused::mul_add(cr, k.red, y),
-        v1: fused::mul_add(cb, k.cb, with_cr),
-        v2: fused::mul_add(cb, k.blue, y),
-    }
-}
-
+// By pieces of 256 pixels at most, which have room on the stack.
 fn rgb_each(k: Constants, cb: &mut [f32], y: &mut [f32], cr: &mut [f32])
+    requires { ⌜ Factors k ⌝ }
     requires { ⌜ EquallyLong (channels (now cb) (now y) (now cr)) ⌝ }
     ensures { λ _. ⌜ channels (now (cb .exit)) (now (y .exit)) (now (cr .exit)) ≡ each (rgbBy k) (channels (now (cb .entry)) (now (y .entry)) (now (cr .entry))) ⌝ }
 {
-    let mut i: usize = 0;
-    while i < cb.len() {
-        let cbycr = Vec3 {
-            v0: cb[i],
-            v1: y[i],
-            v2: cr[i],
-        };
-        let out = rgb(k, cbycr);
-        cb[i] = out.v0;
-        y[i] = out.v1;
-        cr[i] = out.v2;
-        i += 1;
+    let mut p = [0.0f32; 256];
+    let mut q = [0.0f32; 256];
+    let mut r = [0.0f32; 256];
+    let n = cb.len();
+    let mut j: usize = 0;
+    while j < n {
+        let m = channels::next_piece(n - j);
+        let e = j + m;
+        piece::converted(
+            k,
+            &mut cb[j..e],
+            &mut y[j..e],
+            &mut cr[j..e],
+            &mut p[0..m],
+            &mut q[0..m],
+            &mut r[0..m],
+        );
+        j = e;
     }
 }
 

@@ -2,6 +2,7 @@
 
 use crate::cbrt::exact;
 use crate::edges::{ORDINARY, at_edges};
+use crate::floats::power;
 use crate::lists;
 use crate::ops::{Op, list};
 use crate::record::{Kind, LONGEST, Record};
@@ -64,7 +65,63 @@ fn fixed() -> Vec<Case> {
     let xyb = at_edges(xyb).map(|floats| case(3, op(0, &floats), ORDINARY));
     let luma = at_edges(luma).map(|floats| case(1, op(1, &floats), ORDINARY));
     let matrix = at_edges(matrix).map(|floats| case(3, op(3, &floats), ORDINARY));
-    samples.chain(xyb).chain(luma).chain(matrix).collect()
+    let edges = samples.chain(xyb).chain(luma).chain(matrix);
+    edges
+        .chain(windows())
+        .chain(ties())
+        .chain(decided())
+        .collect()
+}
+
+/// XYB where l, m and s less the roots, or the biases, lie at the ends of what f64 holds exactly: 1/16 and 4, 2^-15 and 2^-6.
+/// All samples are at one end but the last, which is an ordinary one.
+fn windows() -> Vec<Case> {
+    let near = |x: f32| [-1, 0, 1].map(|by| f32::from_bits(x.to_bits().wrapping_add_signed(by)));
+    let biases = [power(-15), power(-6)].into_iter().flat_map(near);
+    let biases = biases.flat_map(|b| [b, -b]).chain([0.0, -0.0, -0.0037930733]);
+    let mut cases = Vec::new();
+    for bias in biases {
+        for end in [power(-4), power(2)] {
+            let samples = near(end + exact(bias));
+            let channel = [&samples[..], &[0.5 + exact(bias)]].concat();
+            cases.push(Case {
+                start: 3,
+                ops: vec![op(0, &[bias, bias, bias, 255.0])],
+                channels: [vec![0.0; 4], channel.clone(), channel],
+            });
+        }
+    }
+    cases
+}
+
+/// XYB without biases of numbers whose cubes have 25 digits, the last a one: each is half way between two floats.
+fn ties() -> Vec<Case> {
+    let odd = (257..=321).step_by(2).map(|p| p as f32);
+    let places = [power(-20), power(-12), power(-8), power(-7), power(4)];
+    let case = |place: f32| {
+        let channel: Vec<f32> = odd.clone().map(|p| p * place).collect();
+        Case {
+            start: 3,
+            ops: vec![op(0, &[0.0, 0.0, 0.0, 255.0])],
+            channels: [vec![0.0; channel.len()], channel.clone(), channel],
+        }
+    };
+    places.map(case).into()
+}
+
+/// XYB of such numbers where a bias decides that is too small for f64 beside the cube: 2^-60 beside 1, and 2^-15 beside 2^39. A bias and a sample at a time are out
+/// of what f64 holds exactly; behind it an ordinary sample stands.
+fn decided() -> Vec<Case> {
+    [(power(-60), 257.0 * power(-8)), (power(-15), 257.0 * power(5))]
+        .map(|(bias, g)| {
+            let channel = vec![g + exact(bias), 1.0 + exact(bias)];
+            Case {
+                start: 3,
+                ops: vec![op(0, &[bias, bias, bias, 255.0])],
+                channels: [vec![0.0; 2], channel.clone(), channel],
+            }
+        })
+        .into()
 }
 
 /// An op whose fields are all floats.

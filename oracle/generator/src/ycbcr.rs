@@ -67,14 +67,32 @@ fn refused(rng: &mut Rng) -> Vec<(u32, Channels)> {
     all
 }
 
-/// The edges, in each channel and in all three, by each firmware that the Rust judges in turn, then by 4; and the refused ones.
+/// Black with a Cr so small that red is subnormal, and would be another number if it were rounded to 24 digits first.
+fn below_normal() -> Vec<(u32, Channels)> {
+    let dark = -128.0f32 / 255.0;
+    [(1, 750), (4, 1250)]
+        .map(|(firmware, cr)| {
+            (
+                firmware,
+                [0.0, dark, f32::from_bits(cr)].map(|sample| vec![sample]),
+            )
+        })
+        .to_vec()
+}
+
+/// The edges, in each channel and in all three, by each firmware that the Rust judges in turn, then by 4; the refused ones; and sums below the
+/// normal numbers.
 fn fixed(rng: &mut Rng) -> Vec<(u32, Channels)> {
     let edges = || at_edges(ORDINARY).map(|pixel| pixel.map(|sample| vec![sample]));
     let of_rust = edges()
         .enumerate()
         .map(|(i, channels)| (1 + i as u32 % 3, channels));
     let of_bt709 = edges().map(|channels| (4, channels));
-    of_rust.chain(of_bt709).chain(refused(rng)).collect()
+    of_rust
+        .chain(of_bt709)
+        .chain(refused(rng))
+        .chain(below_normal())
+        .collect()
 }
 
 pub fn write(rng: &mut Rng, count: usize, out: &mut impl Write) {

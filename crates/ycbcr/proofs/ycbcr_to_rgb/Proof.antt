@@ -1,7 +1,7 @@
 -- `ycbcr_to_rgb` converts each triple where `judge` lets it, and changes nothing where it does not.
--- The answer Done gives the lengths; the constants are those of the firmware's weights.
+-- The answer Done gives the lengths; the constants are those of the firmware's weights, and of the window (`Factors`).
 use Prim.Native.Nat.{ℕ}
-use mathlib.Core.Path.{_≡_, ap, sym, _∙_}
+use mathlib.Core.Path.{_≡_, ap, subst, sym, _∙_}
 use borrow.Author.Needs.{needs}
 use Rattle.channels.specs.Channels.{Channels, channels, equallyLong}
 use Rattle.channels.proofs.Lengths.{equal-exactly}
@@ -9,6 +9,8 @@ use Rattle.firmware.specs.Firmware.{weightsOf}
 use Rattle.firmware.specs.Conversion.{conversionOf}
 use Rattle.firmware.proofs.Exactly.{done-equal}
 use Rattle.ycbcr.specs.Ycbcr.{constantsOf, rgbBy, rgbOf}
+use Rattle.ycbcr.specs.Steps.{Factors}
+use Rattle.ycbcr.proofs.Factors.{factors-of}
 use Rattle.ycbcr.proofs.ycbcr_to_rgb.Statement.{statement}
 use Rattle.ycbcr.proofs.ycbcr_to_rgb.Tie as tie
 
@@ -41,7 +43,10 @@ rgb-each-requires : tie.Need-rgb-each-requires
 rgb-each-requires c κs =
     let t = c .before .before .before .before .before in
     let j = t .before .before in
-    equal-exactly (lent j) .0 (done-equal (named j) (equallyLong (lent j)) (sym (t .enum-told .given .1) ∙ judged j))
+    let d = c .before .before .before in (
+      subst Factors (sym (d .constants-of .ensures ∙ ap constantsOf (d .before .weights-of .ensures))) (factors-of (named j)),
+      equal-exactly (lent j) .0 (done-equal (named j) (equallyLong (lent j)) (sym (t .enum-told .given .1) ∙ judged j)),
+    )
 
 enum-told-2 : tie.Need-enum-told-2
 enum-told-2 c = search needs

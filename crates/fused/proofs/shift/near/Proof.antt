@@ -6,7 +6,7 @@ use native.Mathlib.Nat.{le-of-eq, le-trans}
 use native.Mathlib.Numerals.{add-one}
 use native.Mathlib.Omega.{arith}
 use borrow.Author.Needs.{needs}
-use Rattle.fused.proofs.Closest.{near-eq, near-gt, near-lt}
+use Rattle.rounding.proofs.Closest.{near-eq, near-gt, near-lt}
 use Rattle.fused.proofs.Shifts.{cut-le, cut-rest, cut-same, one-shl, quot-le}
 use Rattle.fused.proofs.shift.near.Statement.{statement}
 use Rattle.fused.proofs.shift.near.Tie as tie

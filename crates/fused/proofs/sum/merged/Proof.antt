@@ -9,7 +9,7 @@ use borrow.Author.Needs.{needs}
 use lib.Dec.{lit≤}
 use lib.Ieee.{Float, binary32, round, sum, units}
 use Rattle.binary32.proofs.Pattern.{together}
-use Rattle.fused.proofs.Sums.{like-sum, none-sum, unlike-sum, w-le}
+use Rattle.fused.proofs.Jammed.{like-sum, none-sum, unlike-sum, w-le}
 use Rattle.fused.proofs.sum.merged.Statement.{statement}
 use Rattle.fused.proofs.sum.merged.Tie as tie
 

@@ -1,0 +1,2 @@
+-- A plan block run on three channels.
+pub mod BlockRun

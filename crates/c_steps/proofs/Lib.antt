@@ -1,0 +1,2 @@
+-- That each exported contract determines its answer.
+pub mod Determined

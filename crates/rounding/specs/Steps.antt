@@ -1,0 +1,49 @@
+-- What the quick forms of `mul_add` and of the loops over samples ask and compute. Nothing that a crate promises outside rests on believing this page.
+use mathlib.Core.Path.{_≡_}
+use mathlib.Core.Logic.{_⊎_}
+use mathlib.Core.Bool.{_&&_, not}
+use Prim.Native.Nat.{ℕ, _+_, _*_, _%_, _/_, _<_, _≤_}
+use lib.Dec.{T}
+use lib.Ieee.{Float, binary32, binary64, fits, isNan, mul, nanBits, ofBits, sub, toBits}
+
+-- 2 ^ 29 times an f64: an f64 has 29 digits more than an f32
+abbrev pub lifted : Float → Float
+lifted x = mul binary64 x (ofBits binary64 0x41c0_0000_0000_0000)
+
+-- an f64 rounded to 24 digits by three operations of f64
+unfoldable pub cut : Float → Float
+cut x = sub binary64 (lifted x) (sub binary64 (lifted x) x)
+
+-- cutting x gives r, a value of f32: so the cast of it is defined
+pub record Narrows (x r : Float) : Type 0 where
+  pub single : T (fits binary32 (cut x) && not (isNan (cut x)))
+  pub is : cut x ≡ r
+
+-- the pattern of an f64 that is not half way between two values of f32, and whose exponent is one of f32's normal ones
+abbrev pub NotHalfWay : ℕ → Type 0
+NotHalfWay b =
+    (b % 0x2000_0000 ≡ 0x1000_0000 → ⊥)
+    × (898 ≤ b % 0x8000_0000_0000_0000 / 0x10_0000_0000_0000)
+    × (b % 0x8000_0000_0000_0000 / 0x10_0000_0000_0000 ≤ 1149)
+
+-- or of a zero
+abbrev pub Clear : ℕ → Type 0
+Clear b = (b % 0x8000_0000_0000_0000 ≡ 0) ⊎ NotHalfWay b
+
+-- the pattern of an f64, and half of what the last of 24 digits weighs
+abbrev pub moved : Float → ℕ
+moved x = toBits binary64 x + 0x1000_0000
+
+-- the pattern with nothing below the 24 digits: that of x rounded to them, a tie going away from zero
+abbrev pub dropped : Float → ℕ
+dropped x = moved x / 0x2000_0000 * 0x2000_0000
+
+unfoldable pub rounded : Float → Float
+rounded x = ofBits binary64 (dropped x)
+
+-- the patterns are those of numbers, the second of one of f32: so each step of it is defined
+pub record Rounds (x : Float) : Type 0 where
+  pub real : T (not (isNan x))
+  pub room : moved x < 0x1_0000_0000_0000_0000
+  pub still : T (not (nanBits binary64 (dropped x)))
+  pub single : T (fits binary32 (rounded x) && not (isNan (rounded x)))

@@ -1,0 +1,1 @@
+// Laws of rounding to the nearest, and where two roundings are one: definitions and theorems, and no code.

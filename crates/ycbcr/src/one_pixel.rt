@@ -1,0 +1,90 @@
+// One pixel, Cb, Y, Cr in and R, G, B out: by fused products and sums, or by f64.
+ghost use mathlib.Core.Path.{_≡_};
+ghost use mathlib.Core.Bool.{_&&_, not, true};
+ghost use Prim.Native.Nat.{_%_};
+ghost use lib.Dec.{T};
+ghost use lib.Ieee.{binary32, fits, isNan};
+ghost use Rattle.rounding.specs.Steps.{Rounds, moved, rounded};
+ghost use Rattle.channels.specs.Channels.{vec};
+ghost use Rattle.ycbcr.specs.Ycbcr.{rgbBy};
+ghost use Rattle.ycbcr.specs.Steps.{Factors, Ordinary, Ready, quickBy};
+use crate::Constants;
+use ciexyz::Vec3;
+
+pub(crate) fn rgb(k: Constants, cbycr: Vec3) -> Vec3
+    ensures { λ r. ⌜ r ≡ rgbBy k cbycr ⌝ }
+{
+    let cb = cbycr.v0;
+    let y = cbycr.v1 + 128.0 / 255.0;
+    let cr = cbycr.v2;
+    let with_cr = fused::mul_add(cr, k.cr, y);
+    Vec3 {
+        v0: fused::mul_add(cr, k.red, y),
+        v1: fused::mul_add(cb, k.cb, with_cr),
+        v2: fused::mul_add(cb, k.blue, y),
+    }
+}
+
+// Whether x is a zero, or of a size from 1e-14 to 4: then no sum is too small or too large for f32.
+fn is_ordinary(x: f32) -> bool
+    ensures { λ r. ⌜ (r ≡ true → Ordinary x) ⌝ }
+{
+    let t = x * x;
+    ((1e-28 <= t) | (x == 0.0)) & (t <= 16.0)
+}
+
+pub(crate) fn is_ready(cb: f32, y: f32, cr: f32) -> bool
+    ensures { λ r. ⌜ (r ≡ true → Ready (vec cb y cr)) ⌝ }
+{
+    is_ordinary(cb) & is_ordinary(y + 128.0 / 255.0) & is_ordinary(cr)
+}
+
+// An f64 rounded to 24 digits, and whether that is sure: it was not half way.
+struct Narrow {
+    value: f64,
+    sure: bool,
+}
+
+// By the pattern: half of what the last digit weighs is added, and what lies below that digit is dropped.
+fn rounded(s: f64) -> Narrow
+    requires { ⌜ Rounds s ⌝ }
+    ensures { λ r. ⌜ r .value ≡ rounded s ⌝ }
+    ensures { λ r. ⌜ T (fits binary32 (r .value) && not (isNan (r .value))) ⌝ }
+    ensures { λ r. ⌜ (r .sure ≡ true → ¬ (moved s % 0x2000_0000 ≡ 0)) ⌝ }
+{
+    let w = f64::to_bits(s) + 0x1000_0000;
+    Narrow {
+        value: f64::from_bits(w / 0x2000_0000 * 0x2000_0000),
+        sure: w % 0x2000_0000 != 0,
+    }
+}
+
+// R, G, B, and whether they are sure.
+pub(crate) struct Worked {
+    pub(crate) red: f32,
+    pub(crate) green: f32,
+    pub(crate) blue: f32,
+    pub(crate) sure: bool,
+}
+
+// The product of two f32 is exact at f64, and the sum is rounded there, to 53 digits, and then to 24.
+pub(crate) fn by_f64(k: Constants, cbycr: Vec3) -> Worked
+    requires { ⌜ Factors k ⌝ }
+    requires { ⌜ Ready cbycr ⌝ }
+    ensures { λ r. ⌜ vec (r .red) (r .green) (r .blue) ≡ quickBy k cbycr ⌝ }
+    ensures { λ r. ⌜ (r .sure ≡ true → quickBy k cbycr ≡ rgbBy k cbycr) ⌝ }
+{
+    let cb = cbycr.v0 as f64;
+    let y = (cbycr.v1 + 128.0 / 255.0) as f64;
+    let cr = cbycr.v2 as f64;
+    let red = rounded(cr * (k.red as f64) + y);
+    let with_cr = rounded(cr * (k.cr as f64) + y);
+    let green = rounded(cb * (k.cb as f64) + with_cr.value);
+    let blue = rounded(cb * (k.blue as f64) + y);
+    Worked {
+        red: red.value as f32,
+        green: green.value as f32,
+        blue: blue.value as f32,
+        sure: red.sure & with_cr.sure & green.sure & blue.sure,
+    }
+}

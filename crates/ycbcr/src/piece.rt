@@ -1,0 +1,131 @@
+// A piece of three channels: by f64, in loops without a branch, where that is sure for every pixel, and else by fused products and sums.
+ghost use mathlib.Core.Path.{_≡_};
+ghost use mathlib.Core.Bool.{true};
+ghost use lib.ListN.{length};
+ghost use Rattle.channels.specs.Channels.{EquallyLong, channels, each};
+ghost use Rattle.ycbcr.specs.Ycbcr.{rgbBy};
+ghost use Rattle.ycbcr.specs.Steps.{AllReady, Factors};
+use crate::Constants;
+use crate::one_pixel;
+use ciexyz::Vec3;
+
+// Keeps the piece in p, q and r, and says whether f64 may be tried on every pixel.
+fn keep(cb: &[f32], y: &[f32], cr: &[f32], p: &mut [f32], q: &mut [f32], r: &mut [f32]) -> bool
+    requires { ⌜ EquallyLong (channels (now cb) (now y) (now cr)) ⌝ }
+    requires { ⌜ (length (now p) ≡ length (now cb)) × (length (now q) ≡ length (now cb)) × (length (now r) ≡ length (now cb)) ⌝ }
+    ensures { λ _. ⌜ channels (now (p .exit)) (now (q .exit)) (now (r .exit)) ≡ channels (now (cb .entry)) (now (y .entry)) (now (cr .entry)) ⌝ }
+    ensures { λ r. ⌜ (r ≡ true → AllReady (now (cb .entry)) (now (y .entry)) (now (cr .entry))) ⌝ }
+{
+    let n = cb.len();
+    let mut ready = true;
+    let mut i: usize = 0;
+    while i < n {
+        let u = cb[i];
+        let v = y[i];
+        let w = cr[i];
+        p[i] = u;
+        q[i] = v;
+        r[i] = w;
+        ready = ready & one_pixel::is_ready(u, v, w);
+        i += 1;
+    }
+    ready
+}
+
+// In place, and whether every pixel is sure.
+fn each_by_f64(k: Constants, cb: &mut [f32], y: &mut [f32], cr: &mut [f32]) -> bool
+    requires { ⌜ Factors k ⌝ }
+    requires { ⌜ EquallyLong (channels (now cb) (now y) (now cr)) ⌝ }
+    requires { ⌜ AllReady (now cb) (now y) (now cr) ⌝ }
+    ensures { λ r. ⌜ (r ≡ true → channels (now (cb .exit)) (now (y .exit)) (now (cr .exit)) ≡ each (rgbBy k) (channels (now (cb .entry)) (now (y .entry)) (now (cr .entry)))) ⌝ }
+{
+    let n = cb.len();
+    let mut sure = true;
+    let mut i: usize = 0;
+    while i < n {
+        let cbycr = Vec3 {
+            v0: cb[i],
+            v1: y[i],
+            v2: cr[i],
+        };
+        let out = one_pixel::by_f64(k, cbycr);
+        cb[i] = out.red;
+        y[i] = out.green;
+        cr[i] = out.blue;
+        sure = sure & out.sure;
+        i += 1;
+    }
+    sure
+}
+
+// From the piece that was kept.
+fn each_fused(
+    k: Constants,
+    p: &[f32],
+    q: &[f32],
+    r: &[f32],
+    cb: &mut [f32],
+    y: &mut [f32],
+    cr: &mut [f32],
+)
+    requires { ⌜ EquallyLong (channels (now p) (now q) (now r)) ⌝ }
+    requires { ⌜ (length (now cb) ≡ length (now p)) × (length (now y) ≡ length (now p)) × (length (now cr) ≡ length (now p)) ⌝ }
+    ensures { λ _. ⌜ channels (now (cb .exit)) (now (y .exit)) (now (cr .exit)) ≡ each (rgbBy k) (channels (now (p .entry)) (now (q .entry)) (now (r .entry))) ⌝ }
+{
+    let n = p.len();
+    let mut i: usize = 0;
+    while i < n {
+        let cbycr = Vec3 {
+            v0: p[i],
+            v1: q[i],
+            v2: r[i],
+        };
+        let out = one_pixel::rgb(k, cbycr);
+        cb[i] = out.v0;
+        y[i] = out.v1;
+        cr[i] = out.v2;
+        i += 1;
+    }
+}
+
+// Whether it was done by f64. Where it was not, p, q and r have the piece.
+fn quickly(
+    k: Constants,
+    cb: &mut [f32],
+    y: &mut [f32],
+    cr: &mut [f32],
+    p: &mut [f32],
+    q: &mut [f32],
+    r: &mut [f32],
+) -> bool
+    requires { ⌜ Factors k ⌝ }
+    requires { ⌜ EquallyLong (channels (now cb) (now y) (now cr)) ⌝ }
+    requires { ⌜ (length (now p) ≡ length (now cb)) × (length (now q) ≡ length (now cb)) × (length (now r) ≡ length (now cb)) ⌝ }
+    ensures { λ _. ⌜ channels (now (p .exit)) (now (q .exit)) (now (r .exit)) ≡ channels (now (cb .entry)) (now (y .entry)) (now (cr .entry)) ⌝ }
+    ensures { λ r. ⌜ (r ≡ true → channels (now (cb .exit)) (now (y .exit)) (now (cr .exit)) ≡ each (rgbBy k) (channels (now (cb .entry)) (now (y .entry)) (now (cr .entry)))) ⌝ }
+{
+    if keep(cb, y, cr, p, q, r) {
+        return each_by_f64(k, cb, y, cr);
+    }
+    false
+}
+
+// Cb, Y, Cr in; R, G, B out. p, q and r are room to keep the piece.
+pub(crate) fn converted(
+    k: Constants,
+    cb: &mut [f32],
+    y: &mut [f32],
+    cr: &mut [f32],
+    p: &mut [f32],
+    q: &mut [f32],
+    r: &mut [f32],
+)
+    requires { ⌜ Factors k ⌝ }
+    requires { ⌜ EquallyLong (channels (now cb) (now y) (now cr)) ⌝ }
+    requires { ⌜ (length (now p) ≡ length (now cb)) × (length (now q) ≡ length (now cb)) × (length (now r) ≡ length (now cb)) ⌝ }
+    ensures { λ _. ⌜ channels (now (cb .exit)) (now (y .exit)) (now (cr .exit)) ≡ each (rgbBy k) (channels (now (cb .entry)) (now (y .entry)) (now (cr .entry))) ⌝ }
+{
+    if !quickly(k, cb, y, cr, p, q, r) {
+        each_fused(k, p, q, r, cb, y, cr);
+    }
+}
