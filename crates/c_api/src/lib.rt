@@ -1,14 +1,18 @@
 // The library as C functions on numbers and slices.
 ghost use mathlib.Core.Path.{_≡_};
+ghost use Prim.Native.Nat.{_≤_};
 ghost use lib.Dec.{T};
 ghost use Rattle.fused.specs.Fused.{fused};
 ghost use Rattle.cbrt.specs.Root.{isRoot, cbrtOf};
+ghost use Rattle.encoding.specs.Icc.{iccChannels};
 ghost use Rattle.screen.specs.Showing.{paper, showingOf, shownOf};
 ghost use Rattle.weights.specs.Rgb.{rgbOf};
 ghost use Rattle.luma.specs.Ycbcr.{ycbcrOf};
 ghost use Rattle.firmware.specs.Firmware.{weightsOf};
 ghost use Rattle.firmware.specs.Conversion.{conversionOf, leftBy, paper as paperOf};
 ghost use Rattle.planes.specs.Planes.{eachPixel, equallyLong, planes};
+ghost use Rattle.srgb10.specs.Codes.{Nearest, codeOf, levelOf};
+ghost use Rattle.srgb10.specs.Curve.{IsLevel};
 ghost use Rattle.srgb10_levels.specs.Levelling.{levellingOf, leftOf, paper as paperOfLevels};
 ghost use Rattle.half.specs.Fitting.{narrowedInto, narrowing, paper as paperOfHalf, widenedInto, widening};
 ghost use Rattle.half_line.specs.Line.{lineFits, widenedBoth};
@@ -26,6 +30,14 @@ pub extern "C" fn rindsaddle_cbrt(x: f32) -> f32
     ensures { λ r. ⌜ r ≡ cbrtOf x ⌝ }
 {
     cbrt::cbrt(x)
+}
+
+// The channels of an ICC profile.
+#[no_mangle]
+pub extern "C" fn rindsaddle_icc_channels(profile: &[u8]) -> u8
+    ensures { λ r. ⌜ r ≡ iccChannels (now (profile .entry)) ⌝ }
+{
+    encoding::icc_channels(profile)
 }
 
 // 0, or the number of the refusal.
@@ -69,6 +81,23 @@ pub extern "C" fn rindsaddle_rgb_bytes(
     ensures { λ _. ⌜ planes (now (cb .exit)) (now (y .exit)) (now (cr .exit)) ≡ leftBy (conversionOf firmware (equallyLong (planes (now (r .entry)) (now (g .entry)) (now (b .entry))) (planes (now (cb .entry)) (now (y .entry)) (now (cr .entry))))) (eachPixel (ycbcrOf (weightsOf firmware)) (planes (now (r .entry)) (now (g .entry)) (now (b .entry)))) (planes (now (cb .entry)) (now (y .entry)) (now (cr .entry))) ⌝ }
 {
     firmware::paper(rgb_bytes::rgb_to_ycbcr(firmware, r, g, b, cb, y, cr)).number
+}
+
+// The level of a code of ten bits; 0 above 1023.
+#[no_mangle]
+pub extern "C" fn rindsaddle_level(code: u16) -> u16
+    ensures nearest { λ r. ⌜ (code ≤ 1023 → IsLevel code r) ⌝ }
+    ensures { λ r. ⌜ r ≡ levelOf code ⌝ }
+{
+    srgb10::level(code)
+}
+
+#[no_mangle]
+pub extern "C" fn rindsaddle_code(level: u16) -> u16
+    ensures nearest { λ r. ⌜ Nearest level r ⌝ }
+    ensures { λ r. ⌜ r ≡ codeOf level ⌝ }
+{
+    srgb10::code(level)
 }
 
 // 0, or the number of the refusal.

@@ -14,6 +14,8 @@ use Rattle.c_steps.proofs.rindsaddle_xyz_to_luma.Reads as xyz-to-luma
 use Rattle.c_steps.proofs.rindsaddle_xyz_to_luma.Kinds as xyz-to-luma-kinds
 use Rattle.c_steps.proofs.rindsaddle_clip.Reads as clip
 use Rattle.c_steps.proofs.rindsaddle_clip.Kinds as clip-kinds
+use Rattle.c_steps.proofs.rindsaddle_unchanged.Reads as unchanged
+use Rattle.c_steps.proofs.rindsaddle_unchanged.Kinds as unchanged-kinds
 use Rattle.c_steps.proofs.rindsaddle_ycbcr.Reads as ycbcr
 use Rattle.c_steps.proofs.rindsaddle_ycbcr.Kinds as ycbcr-kinds
 use Rattle.c_steps.proofs.rindsaddle_count.Reads as count
@@ -48,6 +50,9 @@ clip-determines κs a x y s t p q = p .0 ∙ sym (q .0)
 
 pub clip-channels-determines : Determines 3 clip-kinds.ps clip-kinds.r clip.Post (λ κs r s. channels (now (s .1 .0)) (now (s .1 .1 .0)) (now (s .1 .1 .1 .0)))
 clip-channels-determines κs a x y s t p q = p .1 ∙ sym (q .1)
+
+pub unchanged-determines : Determines 3 unchanged-kinds.ps unchanged-kinds.r unchanged.Post (λ κs r s. r)
+unchanged-determines κs a x y s t p q = p ∙ sym q
 
 pub ycbcr-determines : Determines 3 ycbcr-kinds.ps ycbcr-kinds.r ycbcr.Post (λ κs r s. r)
 ycbcr-determines κs a x y s t p q = p .0 ∙ sym (q .0)

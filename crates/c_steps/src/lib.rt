@@ -103,6 +103,14 @@ pub extern "C" fn rindsaddle_clip(width: u8, a: &mut [f32], b: &mut [f32], c: &m
     channels::paper(steps::clip_samples(width, a, b, c)).number
 }
 
+// TransferFunction Linear and Unknown have no effect; the width is that of the step.
+#[no_mangle]
+pub extern "C" fn rindsaddle_unchanged(width: u8, a: &[f32], b: &[f32], c: &[f32]) -> u8
+    ensures { λ r. ⌜ r ≡ paper (stepOf width (channels (now (a .entry)) (now (b .entry)) (now (c .entry)))) .number ⌝ }
+{
+    channels::paper(steps::unchanged_samples(width, a, b, c)).number
+}
+
 // Cb, Y, Cr in; R, G, B out. 0, or 13 or 4.
 #[no_mangle]
 pub extern "C" fn rindsaddle_ycbcr(

@@ -47,6 +47,7 @@ pub const INTENSITIES: [f32; 17] = [
 pub const GREATEST_G: u32 = 16_777_215;
 
 /// The settings of a plan.
+#[derive(Debug)]
 pub struct Settings {
     pub opsin: OpsinInverseMatrix,
     pub tone: ToneMapping,

@@ -1,34 +1,9 @@
 //! Writes lists of recorded answers to standard output: `oracle KIND SEED COUNT`. See README.md.
 
-mod block;
-mod bytes;
-mod cbrt;
-mod ciexyz;
-mod debug;
-mod differences;
-mod edges;
-mod encodings;
-mod firmware;
-mod floats;
-mod fused;
-mod half;
-mod handed;
-mod join;
-mod libm;
-mod lists;
-mod merge;
-mod ops;
-mod plan;
-mod points;
-mod record;
-mod rng;
-mod run;
-mod screen;
-mod srgb10;
-mod strips;
-mod writing;
-mod ycbcr;
-
+use oracle::{
+    block, bytes, cbrt, ciexyz, differences, fused, half, handed, join, merge, plan, rng, run, screen,
+    srgb10, strips, writing, ycbcr,
+};
 use std::io::{BufWriter, Write};
 
 const USAGE: &str = "usage: oracle fused|cbrt|ciexyz|plan|merge|run|strips|ycbcr|block|screen|writing|block-second|writing-versions|handed|join|bytes|bytes-back|codes|levels|half|lines \

@@ -14,10 +14,11 @@ use given::{
 };
 use std::io::Write;
 
-struct Case {
-    from: EnumColourEncoding,
-    to: EnumColourEncoding,
-    settings: Settings,
+#[derive(Debug)]
+pub struct Case {
+    pub from: EnumColourEncoding,
+    pub to: EnumColourEncoding,
+    pub settings: Settings,
 }
 
 pub fn write(rng: &mut Rng, count: usize, out: &mut impl Write) {
@@ -42,10 +43,22 @@ fn is_retired(side: &EnumColourEncoding) -> bool {
     side.colour_space != ColourSpace::Xyb && side.tf == TransferFunction::Unknown
 }
 
-/// The number, the start width, the number of ops, the end width and the ops. 15 comes before what the Rust is asked, equivalence and 3.
+/// The number, the start width, the number of ops, the end width and the ops.
 fn answer(case: &Case) -> Vec<u32> {
+    match planned(case) {
+        Ok(plan) => {
+            let mut answer = vec![0, plan.input_channels() as u32];
+            answer.extend(debug::words(&plan));
+            answer
+        }
+        Err(number) => vec![number, 0, 0, 0],
+    }
+}
+
+/// The Rust's plan, or the number of the refusal. 15 comes before what the Rust is asked, equivalence and 3.
+pub fn planned(case: &Case) -> Result<ColorTransform, u32> {
     if is_retired(&case.from) || is_retired(&case.to) {
-        return vec![15, 0, 0, 0];
+        return Err(15);
     }
     let side = |e: &EnumColourEncoding| ColorEncodingWithProfile::new(e.clone());
     let s = &case.settings;
@@ -58,12 +71,8 @@ fn answer(case: &Case) -> Vec<u32> {
         &s.tone,
         &NullCms,
     ) {
-        Ok(plan) => {
-            let mut answer = vec![0, plan.input_channels() as u32];
-            answer.extend(debug::words(&plan));
-            answer
-        }
-        Err(Error::UnsupportedColorEncoding) => vec![3, 0, 0, 0],
+        Ok(plan) => Ok(plan),
+        Err(Error::UnsupportedColorEncoding) => Err(3),
         Err(other) => panic!("{other:?}"),
     }
 }
@@ -84,7 +93,7 @@ fn record(case: &Case) -> Record {
     }
 }
 
-fn random(rng: &mut Rng) -> Case {
+pub fn random(rng: &mut Rng) -> Case {
     use ColourSpace::{Grey, Rgb, Unknown, Xyb};
     let from = rng.encoding(&[Rgb, Rgb, Rgb, Rgb, Grey, Grey, Grey, Xyb, Xyb]);
     let mut to = if from.colour_space != Xyb && rng.one_in(3) {

@@ -15,10 +15,11 @@ const LENGTHS: [usize; 18] = [
     0, 1, 2, 3, 4, 5, 7, 8, 9, 15, 16, 17, 31, 32, 33, 63, 64, 65,
 ];
 
+#[derive(Debug)]
 pub struct Case {
-    start: usize,
-    ops: Vec<Op>,
-    channels: [Vec<f32>; 3],
+    pub start: usize,
+    pub ops: Vec<Op>,
+    pub channels: [Vec<f32>; 3],
 }
 
 pub fn write(rng: &mut Rng, count: usize, out: &mut impl Write) {
@@ -32,8 +33,7 @@ pub fn write(rng: &mut Rng, count: usize, out: &mut impl Write) {
                 break (case, record);
             }
         };
-        let biases = case.ops.iter().flat_map(biases);
-        roots += biases.filter(|b| !right_root(*b)).count();
+        roots += case.wrong_roots();
         record.write(out);
     }
     eprintln!("run: {count} runs; f32::cbrt as linked is not the nearest for {roots} biases");
@@ -148,6 +148,12 @@ fn record(case: &Case) -> Record {
 impl Case {
     pub fn length(&self) -> usize {
         self.channels[0].len()
+    }
+
+    /// How many biases have a root that `f32::cbrt`, as it is linked, misses.
+    pub fn wrong_roots(&self) -> usize {
+        let biases = self.ops.iter().flat_map(biases);
+        biases.filter(|b| !right_root(*b)).count()
     }
 
     /// The start width, the list and the channels.

@@ -9,7 +9,7 @@ use given::ycbcr_to_rgb;
 use std::io::Write;
 
 /// Cb, Y, Cr, or R, G, B.
-type Channels = [Vec<f32>; 3];
+pub type Channels = [Vec<f32>; 3];
 
 /// "red 1.5748, blue 1.8556, green from 0.0722 * 1.8556 / 0.7152 and 0.2126 * 1.5748 / 0.7152",
 /// "the same order of operations with the new constants" (02, W7).
@@ -27,7 +27,7 @@ fn bt709([cb, y, cr]: [f32; 3]) -> [f32; 3] {
 }
 
 /// The number, and the channels as they are left.
-fn converted(firmware: u32, mut channels: Channels) -> (u32, Channels) {
+pub fn converted(firmware: u32, mut channels: Channels) -> (u32, Channels) {
     let equal = channels
         .iter()
         .all(|other| other.len() == channels[0].len());
@@ -51,7 +51,7 @@ fn converted(firmware: u32, mut channels: Channels) -> (u32, Channels) {
 }
 
 /// Three channels of these lengths.
-fn lent(rng: &mut Rng, lengths: [usize; 3]) -> Channels {
+pub fn lent(rng: &mut Rng, lengths: [usize; 3]) -> Channels {
     lengths.map(|length| rng.samples(length))
 }
 

@@ -1,0 +1,30 @@
+//! What the lists of recorded answers are made with: inputs by chance and at the edges, and the judges of them. See README.md.
+
+pub mod block;
+pub mod bytes;
+pub mod cbrt;
+pub mod ciexyz;
+pub mod debug;
+pub mod differences;
+pub mod edges;
+pub mod encodings;
+pub mod firmware;
+pub mod floats;
+pub mod fused;
+pub mod half;
+pub mod handed;
+pub mod join;
+pub mod libm;
+pub mod lists;
+pub mod merge;
+pub mod ops;
+pub mod plan;
+pub mod points;
+pub mod record;
+pub mod rng;
+pub mod run;
+pub mod screen;
+pub mod srgb10;
+pub mod strips;
+pub mod writing;
+pub mod ycbcr;
