@@ -10,13 +10,13 @@ use Rattle.notation.proofs.Elements.{map-at}
 use Rattle.channels.specs.Channels.{zip3}
 
 module _ {A P : Type 0} (of : A → A → A → P) where
-  length-rows : (x y z : List A) → length y ≡ length x → length z ≡ length x → length (zip3 of x y z) ≡ length x
+  pub length-rows : (x y z : List A) → length y ≡ length x → length z ≡ length x → length (zip3 of x y z) ≡ length x
   length-rows [] y z p q = refl
   length-rows (a ∷ x) [] z p q = absurd (omega arith)
   length-rows (a ∷ x) (b ∷ y) [] p q = absurd (omega arith)
   length-rows (a ∷ x) (b ∷ y) (c ∷ z) p q = ap suc (length-rows x y z (omega arith) (omega arith))
 
-  row-at : (x y z : List A) (i : ℕ) (d : A) (r : P) → i < length x → length y ≡ length x → length z ≡ length x
+  pub row-at : (x y z : List A) (i : ℕ) (d : A) (r : P) → i < length x → length y ≡ length x → length z ≡ length x
       → getD (zip3 of x y z) i r ≡ of (getD x i d) (getD y i d) (getD z i d)
   row-at [] y z i d r h p q = absurd (not-suc-le-zero h)
   row-at (a ∷ x) [] z i d r h p q = absurd (omega arith)

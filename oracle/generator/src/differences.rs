@@ -32,7 +32,7 @@ fn show(case: &str, f: impl FnOnce() -> String) {
     }
 }
 
-fn side(
+pub fn side(
     colour_space: ColourSpace,
     tf: TransferFunction,
     intent: RenderingIntent,
@@ -46,7 +46,7 @@ fn side(
     }
 }
 
-fn settings(intensity_target: f32, from_pq: bool) -> Settings {
+pub fn settings(intensity_target: f32, from_pq: bool) -> Settings {
     Settings {
         opsin: DEFAULT_OPSIN,
         tone: ToneMapping {
@@ -70,7 +70,7 @@ fn plan_between(
         .expect("a plan")
 }
 
-fn plan(from: EnumColourEncoding, to: EnumColourEncoding, s: Settings) -> ColorTransform {
+pub fn plan(from: EnumColourEncoding, to: EnumColourEncoding, s: Settings) -> ColorTransform {
     let side = ColorEncodingWithProfile::new;
     plan_between(&side(from), &side(to), &s)
 }
@@ -176,7 +176,7 @@ fn plans() {
 }
 
 /// An op whose fields are all floats.
-fn op(kind: u32, floats: &[f32]) -> Op {
+pub fn op(kind: u32, floats: &[f32]) -> Op {
     std::iter::once(kind)
         .chain(floats.iter().map(|&x| word(x)))
         .collect()

@@ -18,6 +18,7 @@ pub mod libm;
 pub mod lists;
 pub mod merge;
 pub mod ops;
+pub mod picture;
 pub mod plan;
 pub mod points;
 pub mod record;

@@ -1,14 +1,14 @@
 //! Writes lists of recorded answers to standard output: `oracle KIND SEED COUNT`. See README.md.
 
 use oracle::{
-    block, bytes, cbrt, ciexyz, differences, fused, half, handed, join, merge, plan, rng, run, screen,
-    srgb10, strips, writing, ycbcr,
+    block, bytes, cbrt, ciexyz, differences, fused, half, handed, join, merge, picture, plan, rng,
+    run, screen, srgb10, strips, writing, ycbcr,
 };
 use std::io::{BufWriter, Write};
 
 const USAGE: &str = "usage: oracle fused|cbrt|ciexyz|plan|merge|run|strips|ycbcr|block|screen|writing|block-second|writing-versions|handed|join|bytes|bytes-back|codes|levels|half|lines \
                      SEED COUNT, or oracle cbrt-census, or oracle screen-census, or oracle every-pixel, or oracle tie-census, or oracle codes-census, \
-                     or oracle differences";
+                     or oracle differences, or oracle picture-stale, or oracle picture-order, or oracle picture-biases";
 
 fn number<T: std::str::FromStr>(word: Option<String>) -> T {
     word.and_then(|word| word.parse().ok()).expect(USAGE)
@@ -24,6 +24,9 @@ fn main() {
         "tie-census" => return bytes::census(),
         "codes-census" => return srgb10::census(),
         "differences" => return differences::print(),
+        "picture-stale" => return picture::stale(),
+        "picture-order" => return picture::order(),
+        "picture-biases" => return picture::biases(),
         _ => {}
     }
     let rng = &mut rng::Rng::new(number(words.next()));

@@ -1,0 +1,56 @@
+-- `run` is safe, and ends.
+-- Each strip leaves fewer pixels, and the input keeps its room.
+use mathlib.Core.Path.{_≡_}
+use lib.ListN.{length}
+use borrow.Author.Needs.{needs}
+use Rattle.planrun.proofs.run.Statement.{statement}
+use Rattle.planrun.proofs.run.Tie as tie
+
+abbrev Inv-loop : tie.InvT-loop
+Inv-loop end numbers input₀ held all p₀ input p = length input ≡ length input₀
+
+abbrev μ-loop : tie.MeasureT-loop
+μ-loop end numbers input₀ held all p₀ input p = p .left
+
+pixels-of-requires : tie.Need-pixels-of-requires Inv-loop μ-loop
+pixels-of-requires c κs = search needs
+
+loop-holds : tie.Need-loop-holds Inv-loop μ-loop
+loop-holds c = search needs
+
+next-requires : tie.Need-next-requires Inv-loop μ-loop
+next-requires c κs = search needs
+
+show-progress-requires : tie.Need-show-progress-requires Inv-loop μ-loop
+show-progress-requires c κs = search needs
+
+loop-less : tie.Need-loop-less Inv-loop μ-loop
+loop-less c = search needs
+
+loop-again : tie.Need-loop-again Inv-loop μ-loop
+loop-again c = search needs
+
+finish-requires : tie.Need-finish-requires Inv-loop μ-loop
+finish-requires c κs = search needs
+
+same-length : tie.Need-same-length Inv-loop μ-loop
+same-length c = search needs
+
+returns : tie.Need-returns Inv-loop μ-loop
+returns c = search needs
+
+pub run-spec : {M : Type 1} → statement M
+run-spec =
+    tie.close
+    (tie.spec
+    Inv-loop
+    μ-loop
+    pixels-of-requires
+    loop-holds
+    next-requires
+    show-progress-requires
+    loop-less
+    loop-again
+    finish-requires
+    same-length
+    returns)
