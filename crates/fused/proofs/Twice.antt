@@ -1,5 +1,5 @@
 -- `fused` of f32 values by f64: the product of two has 48 digits at most and is exact, so the sum alone is rounded, to 53 digits and then to 24.
--- The two roundings are one where the first ends clear of the midpoints of f32 (`Midpoint`, `ByPattern`), and where the sum is exact, so that the first is none (`Exact`).
+-- The two roundings are one where the first ends clear of the midpoints of f32 (`Midpoint`, `ByPattern`).
 use mathlib.Core.Path.{ap, refl, subst, sym, _∙_, _≡_}
 use mathlib.Core.Logic.{inl, inr}
 use mathlib.Core.Bool.{Bool, Bool·beq, cond, false, true}
@@ -13,8 +13,8 @@ use lib.Ieee.Exact.{HasValue}
 use lib.Ieee.Scale.{finite}
 use Rattle.binary32.proofs.Apart.{IsFinite, is-finite}
 use Rattle.rounding.specs.Steps.{Clear, Narrows}
-use Rattle.rounding.proofs.ByPattern.{Settled, settled-sum}
-use Rattle.rounding.proofs.Exact.{fine, narrow-sum}
+use Rattle.rounding.proofs.ByPattern.{Settled, settled-apart, settled-sum}
+use Rattle.rounding.proofs.Exact.{fine}
 use Rattle.rounding.proofs.Midpoint.{careful-sum}
 use Rattle.rounding.proofs.Single.{rescale}
 use Rattle.rounding.proofs.Sums.{add-at, mul-val}
@@ -52,13 +52,6 @@ module _ (a b c : Float) (s t u : Bool) (m n o i j k : ℕ)
       subst (λ (v : Float). P v (fused a b c)) at-f64
       (subst (λ (v : Float). P (sum binary64 (unlike s t) (m * n * 2 ^ (i + j)) u (o * 2 ^ (k + 149)) (2 ^ 298)) v) (by-digits a b c s t u m n o i j k p q r) e)
 
-  -- in a window where the digits of the sum are 53 at most
-  pub exact-fused : 172 ≤ i + j → i + j ≤ 372 → i + j ≤ k + 149 → o * 2 ^ (k + 149 - (i + j)) ≤ 0x10_0000_0000_0000 → Narrows (add binary64 (mul binary64 a b) c) (fused a b c)
-  exact-fused lo hi below few =
-      let w = i + j in
-      both Narrows (subst (λ (x : ℕ). Narrows (sum binary64 (unlike s t) (m * n * 2 ^ w) u x (2 ^ 298)) (sum binary32 (unlike s t) (m * n * 2 ^ w) u x (2 ^ 298))) (whole-of o (k + 149) w below)
-      (narrow-sum (m * n) (o * 2 ^ (k + 149 - w)) w l few lo hi (unlike s t) u))
-
   -- in a window where the sum is no smaller nor larger than an f32 can be, and is a zero otherwise
   pub settled-fused : (w d : ℕ) → 172 ≤ w → d ≤ 424 → w ≤ i + j → w ≤ k + 149 → m * n * 2 ^ (i + j) < 2 ^ d → o * 2 ^ (k + 149) < 2 ^ d → Settled w (suc d) (add binary64 (mul binary64 a b) c) (fused a b c)
   settled-fused w d lo hi f g al bl =
@@ -67,6 +60,10 @@ module _ (a b c : Float) (s t u : Bool) (m n o i j k : ℕ)
       both (Settled w (suc d)) (subst (λ (x : ℕ). Settled w (suc d) (sum binary64 (unlike s t) x u (o * 2 ^ (k + 149)) (2 ^ 298)) (sum binary32 (unlike s t) x u (o * 2 ^ (k + 149)) (2 ^ 298))) A
       (subst (λ (x : ℕ). Settled w (suc d) (sum binary64 (unlike s t) (m * n * 2 ^ (i + j - w) * 2 ^ w) u x (2 ^ 298)) (sum binary32 (unlike s t) (m * n * 2 ^ (i + j - w) * 2 ^ w) u x (2 ^ 298))) B
       (settled-sum (m * n * 2 ^ (i + j - w)) (o * 2 ^ (k + 149 - w)) w d lo hi (lt-of-le-of-lt (le-of-eq A) al) (lt-of-le-of-lt (le-of-eq B) bl) (unlike s t) u)))
+
+  -- or where the addend is larger than the product by so much
+  pub apart-fused : (w d : ℕ) → 172 ≤ w → d ≤ 424 → m * n * 2 ^ (i + j) + 2 ^ w ≤ o * 2 ^ (k + 149) → o * 2 ^ (k + 149) < 2 ^ d → Settled w (suc d) (add binary64 (mul binary64 a b) c) (fused a b c)
+  apart-fused w d lo hi far bl = both (Settled w (suc d)) (settled-apart (m * n * 2 ^ (i + j)) (o * 2 ^ (k + 149)) w d lo hi far bl (unlike s t) u)
 
 -- ---- any three f32, where the sum at f64 is clear
 by-parts : (a b c : Float) (s t u : Bool) (m n o i j k : ℕ) → IsFinite a s m i → IsFinite b t n j → IsFinite c u o k

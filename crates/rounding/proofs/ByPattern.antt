@@ -2,10 +2,11 @@
 -- The exponent and the N of 53 digits are one number there, so that a carry goes up by itself. Where there is no tie, (N + 2 ^ 28) / 2 ^ 29 is `closest`, and then the two roundings are one (`Midpoint`).
 use mathlib.Core.Path.{_≡_, ap, refl, subst, sym, _∙_}
 use mathlib.Core.Logic.{_⊎_, inl, inr}
-use mathlib.Core.Bool.{Bool, cond, false, not, true}
+use mathlib.Core.Bool.{Bool, _&&_, cond, false, not, true}
 use Prim.Native.Nat.{ℕ, suc, zero, _+_, _-_, _*_, _/_, _%_, _^_, _≤_, _<_}
 use native.Mathlib.Nat.{add-mul, eq-or-lt-of-le, le-of-eq, le-trans, lt-of-le-of-lt, lt-of-lt-of-le, mul-assoc, mul-le-mul-right, suc-mul, zero-mul}
 use native.Mathlib.Omega.{arith}
+use borrow.Author.Tests.{eqb-false, not-true}
 use lib.Dec.{T, lit<, ltb}
 use lib.Pow.{add-lt-pow, pow-add, pow-lt, pow-mono, pow-pos}
 use lib.Ieee.{Float, binary32, binary64, fits, isNan, nanBits, ofBits, round, size, sum, toBits, units}
@@ -15,7 +16,7 @@ use lib.Ieee.Exact.{HasValue, units-val}
 use lib.Ieee.Fits.{and-i, cond-fits, fits-widens, inf-fits, odd-fits}
 use lib.Ieee.Nearest.{closest}
 use Rattle.binary32.proofs.Size.{size-gt, split-le}
-use Rattle.rounding.specs.Steps.{Rounds, dropped, moved, rounded}
+use Rattle.rounding.specs.Steps.{Rounds, Sure, dropped, moved, rounded, sure}
 use Rattle.rounding.proofs.Closest.{near-gt, near-lt}
 use Rattle.rounding.proofs.Cut.{not-nan-of}
 use Rattle.rounding.proofs.Midpoint.{N-ge, N-le, again, has, second}
@@ -23,10 +24,25 @@ use Rattle.rounding.proofs.Placed.{pow-back}
 use Rattle.rounding.proofs.Single.{bits-at, rescale}
 use Rattle.rounding.proofs.Sums.{multiple-of, one-rounding}
 
+-- the test of a tie
+pub surely : (x : Float) → sure (toBits binary64 x) ≡ true → Sure x
+surely x e = eqb-false _ _ (not-true _ e)
+
+-- a pattern that was made so is one of a number, which is `rounded` and a value of f32
+pub pattern-is : (x : Float) (w : ℕ) → w ≡ dropped (toBits binary64 x) → ofBits binary64 w ≡ rounded x
+unfolding rounded
+pattern-is x w e = ap (ofBits binary64) e
+
+pub pattern-still : (x : Float) (w : ℕ) → w ≡ dropped (toBits binary64 x) → Rounds x → T (not (nanBits binary64 w))
+pattern-still x w e r = rw e (r .still)
+
+pub pattern-single : (x : Float) (w : ℕ) → w ≡ dropped (toBits binary64 x) → Rounds x → T (fits binary32 (ofBits binary64 w) && not (isNan (ofBits binary64 w)))
+pattern-single x w e r = rw (pattern-is x w e) (r .single)
+
 -- x is rounded so to Q * 2 ^ k of the smallest f32, which is r but at a tie; k is w - 172 at least, and the value 2 ^ (b - 298) at most
 pub record Settled (w b : ℕ) (x r : Float) : Type 0 where
   pub rounds : Rounds x
-  pub is : ¬ (moved x % 0x2000_0000 ≡ 0) → rounded x ≡ r
+  pub is : Sure x → rounded x ≡ r
   pub sign : Bool
   pub Q : ℕ
   pub k : ℕ
@@ -40,11 +56,10 @@ wider h l s = record { rounds = s .rounds; is = s .is; sign = s .sign; Q = s .Q;
 -- ---- the pattern b of N * 2 ^ k units of binary64
 module _ (k N b : ℕ) (h : k < 2000) (l : N ≤ 0x20_0000_0000_0000) where
   adds : (t : Bool) → b ≡ cond t 0x8000_0000_0000_0000 0 + (k * 0x10_0000_0000_0000 + N)
-      → (b + 0x1000_0000 < 0x1_0000_0000_0000_0000)
-      × ((b + 0x1000_0000) / 0x2000_0000 * 0x2000_0000 ≡ cond t 0x8000_0000_0000_0000 0 + (k * 0x10_0000_0000_0000 + (N + 0x1000_0000) / 0x2000_0000 * 0x2000_0000))
-      × ((b + 0x1000_0000) % 0x2000_0000 ≡ (N + 0x1000_0000) % 0x2000_0000)
-  adds true e = (omega arith, omega arith, omega arith)
-  adds false e = (omega arith, omega arith, omega arith)
+      → (dropped b ≡ cond t 0x8000_0000_0000_0000 0 + (k * 0x10_0000_0000_0000 + (N + 0x1000_0000) / 0x2000_0000 * 0x2000_0000))
+      × (moved b % 0x2000_0000 ≡ (N + 0x1000_0000) % 0x2000_0000)
+  adds true e = (omega arith, omega arith)
+  adds false e = (omega arith, omega arith)
 
 no-tie : (N : ℕ) → ¬ ((N + 0x1000_0000) % 0x2000_0000 ≡ 0) → (N % 0x2000_0000 ≡ 0x1000_0000 → ⊥) × (closest N 0x2000_0000 ≡ (N + 0x1000_0000) / 0x2000_0000)
 no-tie N n = (half, by (split-le 0x1000_0000 (N % 0x2000_0000)))
@@ -88,17 +103,16 @@ settled-at t D c lo hi clo chi = by (closest (D * 2 ^ 776) (2 ^ (c + 724))) (N-g
         v32 in
         let f : T (fits binary32 v) = units-fits t Q (c - 172) qhi l in
         let n : T (not (isNan v)) = not-nan-of v t _ _ v32 in
-        let p : dropped x ≡ toBits binary64 v = a .1 ∙ sym (bits-at v t (Q * 0x2000_0000) (c + 724) (omega arith) (omega arith) v64) in
+        let p : dropped (toBits binary64 x) ≡ toBits binary64 v = a .0 ∙ sym (bits-at v t (Q * 0x2000_0000) (c + 724) (omega arith) (omega arith) v64) in
         let e : rounded x ≡ v = ap (ofBits binary64) p ∙ ofBits-toBits binary64 v (fits-widens v f) in
         record {
           rounds = record {
             real = not-nan-of x t _ _ h;
-            room = a .0;
-            still = rw (nanBits-is binary64 (dropped x), e) n;
+            still = rw (nanBits-is binary64 (dropped (toBits binary64 x)), e) n;
             single = rw e (and-i (fits binary32 v) (not (isNan v)) f n);
           };
           is = λ i.
-              let m = no-tie N (λ z. i (a .2 ∙ z)) in
+              let m = no-tie N (λ z. i (a .1 ∙ z)) in
               e ∙ ap (λ (y : ℕ). units binary32 t y (c - 172)) (sym (m .1) ∙ twice (m .0)) ∙ sym (second t D c lo hi cl clo);
           sign = t;
           Q = Q;
@@ -124,18 +138,16 @@ settled-zero : (t : Bool) (w b : ℕ) → Settled w b (round binary64 t 0 (2 ^ 2
 unfolding rounded round ofBits toBits isNan nanBits fits
 settled-zero true w b =
     let n = no-units w b in
-    record { rounds = record { real = tt; room = lit< tt; still = tt; single = tt }; is = λ i. refl; sign = true; Q = 0; k = w; value = (refl, n .0); from = n .1; under = n .2 }
+    record { rounds = record { real = tt; still = tt; single = tt }; is = λ i. refl; sign = true; Q = 0; k = w; value = (refl, n .0); from = n .1; under = n .2 }
 settled-zero false w b =
     let n = no-units w b in
-    record { rounds = record { real = tt; room = lit< tt; still = tt; single = tt }; is = λ i. refl; sign = false; Q = 0; k = w; value = (refl, n .0); from = n .1; under = n .2 }
+    record { rounds = record { real = tt; still = tt; single = tt }; is = λ i. refl; sign = false; Q = 0; k = w; value = (refl, n .0); from = n .1; under = n .2 }
 
--- ---- any multiple of 2 ^ w
-settled : (t : Bool) (E w b : ℕ) → 172 ≤ w → b ≤ 425 → E * 2 ^ w < 2 ^ b → Settled w b (round binary64 t (E * 2 ^ w) (2 ^ 298)) (round binary32 t (E * 2 ^ w) (2 ^ 298))
-settled t zero w b lo hi h = rw (zero-mul (2 ^ w)) (settled-zero t w b)
-settled t (suc E) w b lo hi h =
-    let D = suc E * 2 ^ w in
+-- ---- zero, or 2 ^ w at least
+settled : (t : Bool) (D w b : ℕ) → 172 ≤ w → b ≤ 425 → (D ≡ 0) ⊎ (2 ^ w ≤ D) → D < 2 ^ b → Settled w b (round binary64 t D (2 ^ 298)) (round binary32 t D (2 ^ 298))
+settled t D w b lo hi (inl e) h = rw e (settled-zero t w b)
+settled t D w b lo hi (inr d) h =
     let z = size D in
-    let d : 2 ^ w ≤ D = omega (arith, suc-mul E (2 ^ w)) in
     let up : D < 2 ^ suc (z - 1) = subst (λ (x : ℕ). D < 2 ^ x) (pred z (size-gt D 0 (lt-of-lt-of-le (pow-pos w) d))) (size-lt D) in
     let reach : 2 ^ (z - 1) ≤ D = size-reaches D (z - 1) (omega (arith, size-gt D 0 (lt-of-lt-of-le (pow-pos w) d))) in
     let wl : w < suc (z - 1) = pow-back w (suc (z - 1)) (lt-of-le-of-lt d up) in
@@ -145,10 +157,27 @@ settled t (suc E) w b lo hi h =
     pred : (z : ℕ) → 0 < z → z ≡ suc (z - 1)
     pred z p = omega arith
 
--- ---- a sum of two
+-- ---- a sum of two multiples of 2 ^ w
+zero-or-more : (E w : ℕ) → (E * 2 ^ w ≡ 0) ⊎ (2 ^ w ≤ E * 2 ^ w)
+zero-or-more zero w = inl (zero-mul (2 ^ w))
+zero-or-more (suc E) w = inr (omega (arith, suc-mul E (2 ^ w)))
+
 pub settled-sum : (X Y w b : ℕ) → 172 ≤ w → b ≤ 424 → X * 2 ^ w < 2 ^ b → Y * 2 ^ w < 2 ^ b → (s t : Bool)
     → Settled w (suc b) (sum binary64 s (X * 2 ^ w) t (Y * 2 ^ w) (2 ^ 298)) (sum binary32 s (X * 2 ^ w) t (Y * 2 ^ w) (2 ^ 298))
 settled-sum X Y w b lo hi xl yl s t =
     let r = one-rounding s (X * 2 ^ w) t (Y * 2 ^ w) (2 ^ 298) in
     let m = multiple-of X Y w r in
-    rw (r .is binary64, r .is binary32, m .is) (settled (r .sign) (m .E) w (suc b) lo (omega arith) (lt-of-le-of-lt (le-trans (mul-le-mul-right (2 ^ w) (m .under)) (le-of-eq (add-mul X Y (2 ^ w)))) (add-lt-pow b xl yl)))
+    rw (r .is binary64, r .is binary32, m .is)
+    (settled (r .sign) (m .E * 2 ^ w) w (suc b) lo (omega arith) (zero-or-more (m .E) w) (lt-of-le-of-lt (le-trans (mul-le-mul-right (2 ^ w) (m .under)) (le-of-eq (add-mul X Y (2 ^ w)))) (add-lt-pow b xl yl)))
+
+-- ---- a sum whose second part is larger than the first by 2 ^ w
+pub settled-apart : (A B w b : ℕ) → 172 ≤ w → b ≤ 424 → A + 2 ^ w ≤ B → B < 2 ^ b → (s t : Bool) → Settled w (suc b) (sum binary64 s A t B (2 ^ 298)) (sum binary32 s A t B (2 ^ 298))
+settled-apart A B w b lo hi far bl s t =
+    let r = one-rounding s A t B (2 ^ 298) in
+    let al : A < 2 ^ b = lt-of-le-of-lt (omega arith) bl in
+    rw (r .is binary64, r .is binary32) (settled (r .sign) (r .D) w (suc b) lo (omega arith) (left (r .which)) (lt-of-le-of-lt (r .under) (add-lt-pow b al bl)))
+  where
+    left : {D : ℕ} → (D ≡ A + B) ⊎ ((D ≡ A - B) ⊎ (D ≡ B - A)) → (D ≡ 0) ⊎ (2 ^ w ≤ D)
+    left (inl e) = inr (omega arith)
+    left (inr (inl e)) = inl (omega arith)
+    left (inr (inr e)) = inr (omega arith)

@@ -1,12 +1,15 @@
--- Theorems on two roundings, the first to 53 digits and the second to 24: Cut (the second by three operations), Exact (where the first is
--- none), Midpoint (where the first does not end half way between two values of f32), ByPattern (there, the second by the pattern).
+-- Theorems on two roundings, the first to 53 digits and the second to 24: Cut (the second by three operations), Midpoint (where the
+-- first does not end half way between two values of f32), ByPattern (there, the second by the pattern); Determined.
 pub mod Cut
-pub mod Exact
 pub mod Midpoint
 pub mod ByPattern
--- laws: the nearest whole number, one rounding, sums, a number of 53 digits at each format, and where the digits of an f32 stand
+pub mod Determined
+-- laws: the nearest whole number, one rounding, sums, what is exact at f64, a number of 53 digits at each format, where the digits of an
+-- f32 stand, and those of a square
 pub mod Closest
 pub mod Rounding
 pub mod Sums
+pub mod Exact
 pub mod Single
 pub mod Placed
+pub mod Squares

@@ -1,10 +1,10 @@
 -- What the quick forms of `mul_add` and of the loops over samples ask and compute. Nothing that a crate promises outside rests on believing this page.
 use mathlib.Core.Path.{_≡_}
 use mathlib.Core.Logic.{_⊎_}
-use mathlib.Core.Bool.{_&&_, not}
-use Prim.Native.Nat.{ℕ, _+_, _*_, _%_, _/_, _<_, _≤_}
-use lib.Dec.{T}
-use lib.Ieee.{Float, binary32, binary64, fits, isNan, mul, nanBits, ofBits, sub, toBits}
+use mathlib.Core.Bool.{Bool, _&&_, not}
+use Prim.Native.Nat.{ℕ, _+_, _*_, _%_, _/_, _^_, _≤_}
+use lib.Dec.{T, eqb}
+use lib.Ieee.{Float, add, binary32, binary64, fits, isNan, mul, nanBits, ofBits, sub, toBits}
 
 -- 2 ^ 29 times an f64: an f64 has 29 digits more than an f32
 abbrev pub lifted : Float → Float
@@ -30,20 +30,34 @@ NotHalfWay b =
 abbrev pub Clear : ℕ → Type 0
 Clear b = (b % 0x8000_0000_0000_0000 ≡ 0) ⊎ NotHalfWay b
 
--- the pattern of an f64, and half of what the last of 24 digits weighs
-abbrev pub moved : Float → ℕ
-moved x = toBits binary64 x + 0x1000_0000
+-- a pattern of an f64, and half of what the last of 24 digits weighs; no number's pattern is so large that the sum wraps
+abbrev pub moved : ℕ → ℕ
+moved w = (w + 0x1000_0000) % 2 ^ 64
 
--- the pattern with nothing below the 24 digits: that of x rounded to them, a tie going away from zero
-abbrev pub dropped : Float → ℕ
-dropped x = moved x / 0x2000_0000 * 0x2000_0000
+-- the pattern with nothing below the 24 digits: that of an f64 rounded to them, a tie going away from zero
+abbrev pub dropped : ℕ → ℕ
+dropped w = moved w / 0x2000_0000 * 0x2000_0000
+
+-- the f64 was not half way between two values of f32: the test,
+abbrev pub sure : ℕ → Bool
+sure w = not (eqb (moved w % 0x2000_0000) 0)
+
+-- and in words
+abbrev pub Sure : Float → Type 0
+Sure x = ¬ (moved (toBits binary64 x) % 0x2000_0000 ≡ 0)
 
 unfoldable pub rounded : Float → Float
-rounded x = ofBits binary64 (dropped x)
+rounded x = ofBits binary64 (dropped (toBits binary64 x))
 
--- the patterns are those of numbers, the second of one of f32: so each step of it is defined
+-- both patterns are those of numbers, the second of one of f32: so reading the one, and making and casting the other, is defined
 pub record Rounds (x : Float) : Type 0 where
   pub real : T (not (isNan x))
-  pub room : moved x < 0x1_0000_0000_0000_0000
-  pub still : T (not (nanBits binary64 (dropped x)))
+  pub still : T (not (nanBits binary64 (dropped (toBits binary64 x))))
   pub single : T (fits binary32 (rounded x) && not (isNan (rounded x)))
+
+-- a * b + c at f64, and rounded so
+abbrev pub sumOf : Float → Float → Float → Float
+sumOf a b c = add binary64 (mul binary64 a b) c
+
+abbrev pub byF64 : Float → Float → Float → Float
+byF64 a b c = rounded (sumOf a b c)

@@ -8,7 +8,7 @@ use Rattle.channels.specs.Channels.{v0Of, v1Of, v2Of}
 use Rattle.xyb.specs.Xyb.{mixed, mixedBy}
 use Rattle.xyb.specs.Steps.{cubed, shifted}
 
-parts : (k : Float → Float) (part : Vec3 → Float) (g f : Vec3 → Vec3) → ((t : Vec3) → k (part (g t)) ≡ part (f t)) → (ts : List Vec3) → map k (map part (map g ts)) ≡ map part (map f ts)
+pub parts : (k : Float → Float) (part : Vec3 → Float) (g f : Vec3 → Vec3) → ((t : Vec3) → k (part (g t)) ≡ part (f t)) → (ts : List Vec3) → map k (map part (map g ts)) ≡ map part (map f ts)
 parts k part g f e [] = refl
 parts k part g f e (t ∷ ts) = λ i. e t i ∷ parts k part g f e ts i
 

@@ -22,7 +22,7 @@ fn roots_of(bias: Vec3) -> Vec3
     }
 }
 
-// By pieces of 256 samples at most, whose squares have room on the stack.
+// By pieces of 256 samples at most, which have room on the stack.
 fn inverted(roots: Vec3, bias: Vec3, scale: f32, x: &mut [f32], y: &mut [f32], b: &mut [f32])
     requires { ⌜ EquallyLong (channels (now x) (now y) (now b)) ⌝ }
     ensures { λ _. ⌜ channels (now (x .exit)) (now (y .exit)) (now (b .exit)) ≡ each (mixedBy roots bias scale) (channels (now (x .entry)) (now (y .entry)) (now (b .entry))) ⌝ }

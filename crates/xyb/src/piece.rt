@@ -9,7 +9,7 @@ ghost use Rattle.xyb.specs.Steps.{AllWithin, Biases, shifted, squared};
 use crate::cube;
 use ciexyz::Vec3;
 
-// l, m and s less the roots, in place of x, y and b; their squares in p, q and r; and whether every one lies from 1/16 to 4.
+// l, m and s less the roots, in p, q and r; their squares in place of x, y and b; and whether every square is 16 at most.
 fn shift(
     roots: Vec3,
     x: &mut [f32],
@@ -21,9 +21,9 @@ fn shift(
 ) -> bool
     requires { ⌜ EquallyLong (channels (now x) (now y) (now b)) ⌝ }
     requires { ⌜ (length (now p) ≡ length (now x)) × (length (now q) ≡ length (now x)) × (length (now r) ≡ length (now x)) ⌝ }
-    ensures { λ _. ⌜ channels (now (x .exit)) (now (y .exit)) (now (b .exit)) ≡ each (shifted roots) (channels (now (x .entry)) (now (y .entry)) (now (b .entry))) ⌝ }
-    ensures { λ _. ⌜ (now (p .exit) ≡ map squared (now (x .exit))) × (now (q .exit) ≡ map squared (now (y .exit))) × (now (r .exit) ≡ map squared (now (b .exit))) ⌝ }
-    ensures { λ r. ⌜ (r ≡ true → AllWithin (now (x .exit)) × AllWithin (now (y .exit)) × AllWithin (now (b .exit))) ⌝ }
+    ensures { λ _. ⌜ channels (now (p .exit)) (now (q .exit)) (now (r .exit)) ≡ each (shifted roots) (channels (now (x .entry)) (now (y .entry)) (now (b .entry))) ⌝ }
+    ensures { λ _. ⌜ (now (x .exit) ≡ map squared (now (p .exit))) × (now (y .exit) ≡ map squared (now (q .exit))) × (now (b .exit) ≡ map squared (now (r .exit))) ⌝ }
+    ensures { λ w. ⌜ (w ≡ true → AllWithin (now (p .exit)) × AllWithin (now (q .exit)) × AllWithin (now (r .exit))) ⌝ }
 {
     let n = x.len();
     let mut within = true;
@@ -35,25 +35,19 @@ fn shift(
         let l = v + u - roots.v0;
         let m = v - u - roots.v1;
         let s = w - roots.v2;
-        x[i] = l;
-        y[i] = m;
-        b[i] = s;
-        p[i] = l * l;
-        q[i] = m * m;
-        r[i] = s * s;
-        within = within
-            & (0.0625 <= l)
-            & (l <= 4.0)
-            & (0.0625 <= m)
-            & (m <= 4.0)
-            & (0.0625 <= s)
-            & (s <= 4.0);
+        p[i] = l;
+        q[i] = m;
+        r[i] = s;
+        x[i] = l * l;
+        y[i] = m * m;
+        b[i] = s * s;
+        within = within & (l * l <= 16.0) & (m * m <= 16.0) & (s * s <= 16.0);
         i += 1;
     }
     within
 }
 
-// X, Y, B in; mixed L, M, S out. `near` says that the biases are in the window; p, q and r are room for the squares.
+// X, Y, B in; mixed L, M, S out. `near` says that the biases are in the window; p, q and r are room to work in.
 pub(crate) fn inverted(
     roots: Vec3,
     bias: Vec3,
@@ -72,7 +66,8 @@ pub(crate) fn inverted(
     ensures { λ _. ⌜ channels (now (x .exit)) (now (y .exit)) (now (b .exit)) ≡ each (mixedBy roots bias scale) (channels (now (x .entry)) (now (y .entry)) (now (b .entry))) ⌝ }
 {
     let within = shift(roots, x, y, b, p, q, r);
-    cube::cube(x, p, bias.v0, scale, near, within);
-    cube::cube(y, q, bias.v1, scale, near, within);
-    cube::cube(b, r, bias.v2, scale, near, within);
+    let quick = near & within;
+    cube::cube(x, p, bias.v0, scale, quick);
+    cube::cube(y, q, bias.v1, scale, quick);
+    cube::cube(b, r, bias.v2, scale, quick);
 }

@@ -1,16 +1,13 @@
-// The window of biases: with the samples in theirs, the sum of a cube and a bias has 53 digits at most, and is exact at f64.
+// The window of biases: with one of them a sum is a zero, or no smaller than an f32 of all its digits.
 ghost use mathlib.Core.Path.{_≡_};
 ghost use mathlib.Core.Bool.{true};
 ghost use Rattle.xyb.specs.Steps.{Bias, Biases};
 use ciexyz::Vec3;
 
-// Whether c is a zero, or of a size from 2^-15 to 2^-6.
+// Whether c is of a size from 2^-15 to 2^-6.
 fn is_bias(c: f32) -> bool
     ensures { λ r. ⌜ (r ≡ true → Bias c) ⌝ }
 {
-    if c == 0.0 {
-        return true;
-    }
     if 0.000030517578125 <= c {
         return c <= 0.015625;
     }

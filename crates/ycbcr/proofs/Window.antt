@@ -8,7 +8,7 @@ use native.Mathlib.Nat.{le-of-lt, le-trans, lt-of-le-of-lt, lt-of-lt-of-le, mul-
 use native.Mathlib.Omega.{arith}
 use lib.Dec.{T, eqb, eqb→eq, lit≤}
 use lib.Pow.{pow-add, pow-lt, pow-mono, pow-pos, shl-lt}
-use lib.Ieee.{Float, add, binary32, binary64, down, eq, fin, fits, inf, isNan, le, lt, mul, nan, ofBits, round, unlike, up}
+use lib.Ieee.{Float, add, binary32, binary64, down, eq, fin, fits, inf, isNan, le, lt, mul, nan, ofBits, round, up}
 use lib.Ieee.Exact.{HasValue}
 use lib.Ieee.Fits.{and-i, and-l, fits-widens}
 use lib.Ieee.Order.{round-mono}
@@ -20,83 +20,54 @@ use Rattle.rounding.specs.Steps.{rounded}
 use Rattle.rounding.proofs.ByPattern.{Settled}
 use Rattle.rounding.proofs.Cut.{not-nan-of}
 use Rattle.rounding.proofs.Placed.{pow-back}
-use Rattle.rounding.proofs.Sums.{mul-val}
+use Rattle.rounding.proofs.Squares.{root-under, sixteen, square-is}
 use Rattle.fused.specs.Fused.{fused}
 use Rattle.fused.proofs.Product.{product-lt}
 use Rattle.fused.proofs.Twice.{settled-fused}
 use Rattle.ycbcr.specs.Steps.{Digits, Factor, Ordinary}
 
 -- ---- a sample
--- 1e-28 and 16
+-- 1e-28
 abbrev pub leastSquare : Float
 leastSquare = bits 0x10fd_87b6
-
-abbrev pub mostSquare : Float
-mostSquare = bits 0x4180_0000
-
-like-signs : (s : Bool) → unlike s s ≡ false
-like-signs true = refl
-like-signs false = refl
 
 -- one square against another, which is known
 below-least : T (le leastSquare (round binary32 false (2 ^ 204) (2 ^ 298))) → ⊥
 unfolding ofBits round le lt eq
 below-least h = h
 
-above-most : T (le (round binary32 false (2 ^ 304) (2 ^ 298)) mostSquare) → ⊥
-unfolding ofBits round le lt eq
-above-most h = h
-
 least-positive : T (positive leastSquare)
 unfolding ofBits
 least-positive = tt
-
-most-positive : T (positive mostSquare)
-unfolding ofBits
-most-positive = tt
 
 small-positive : T (positive (round binary32 false (2 ^ 204) (2 ^ 298)))
 unfolding round
 small-positive = tt
 
-large-positive : T (positive (round binary32 false (2 ^ 304) (2 ^ 298)))
-unfolding round
-large-positive = tt
+root-over : (W : ℕ) → T (le leastSquare (round binary32 false (W * W) (2 ^ 298))) → 2 ^ 102 ≤ W
+root-over W a = elim (split-le (2 ^ 102) W) [
+  | inl h ↦ h
+  | inr l ↦
+      let b : T (le (round binary32 false (W * W) (2 ^ 298)) (round binary32 false (2 ^ 204) (2 ^ 298))) =
+      round-mono binary32 (W * W) (2 ^ 298) (2 ^ 204) (2 ^ 298) (pow-pos 298) (pow-pos 298) (mul-le-mul-right (2 ^ 298) (mul-le-mul (le-of-lt l) (le-of-lt l))) in
+      absurd (below-least (le-trans-positive leastSquare (round binary32 false (W * W) (2 ^ 298)) _ least-positive (between _ _ _ least-positive small-positive a b) small-positive a b))
+]
 
-module _ (W : ℕ) (a : T (le leastSquare (round binary32 false (W * W) (2 ^ 298)))) (b : T (le (round binary32 false (W * W) (2 ^ 298)) mostSquare)) where
-  square-positive : T (positive (round binary32 false (W * W) (2 ^ 298)))
-  square-positive = between leastSquare _ mostSquare least-positive most-positive a b
-
-  no-less : 2 ^ 102 ≤ W
-  no-less = elim (split-le (2 ^ 102) W) [
-    | inl h ↦ h
-    | inr l ↦ absurd (below-least (le-trans-positive leastSquare (round binary32 false (W * W) (2 ^ 298)) (round binary32 false (2 ^ 204) (2 ^ 298)) least-positive square-positive small-positive a
-        (round-mono binary32 (W * W) (2 ^ 298) (2 ^ 204) (2 ^ 298) (pow-pos 298) (pow-pos 298) (mul-le-mul-right (2 ^ 298) (mul-le-mul (le-of-lt l) (le-of-lt l))))))
-  ]
-
-  no-more : W < 2 ^ 152
-  no-more = elim (split-le (2 ^ 152) W) [
-    | inr l ↦ l
-    | inl h ↦ absurd (above-most (le-trans-positive (round binary32 false (2 ^ 304) (2 ^ 298)) (round binary32 false (W * W) (2 ^ 298)) mostSquare large-positive square-positive most-positive
-        (round-mono binary32 (2 ^ 304) (2 ^ 298) (W * W) (2 ^ 298) (pow-pos 298) (pow-pos 298) (mul-le-mul-right (2 ^ 298) (mul-le-mul h h))) b))
-  ]
-
-by-digits : (x : Float) (s : Bool) (M y : ℕ) → T (fits binary32 x) → IsFinite x s M y → T (le leastSquare (x *f x)) → T (le (x *f x) mostSquare) → Ordinary x
+by-digits : (x : Float) (s : Bool) (M y : ℕ) → T (fits binary32 x) → IsFinite x s M y → T (le leastSquare (x *f x)) → T (le (x *f x) sixteen) → Ordinary x
 by-digits x s M y f d a b =
-    let q : x *f x ≡ round binary32 false (M * 2 ^ y * (M * 2 ^ y)) (2 ^ 298) =
-    mul-val binary32 x x s s (M * 2 ^ y) (M * 2 ^ y) (2 ^ 149) (2 ^ 149) (pow-pos 149) (pow-pos 149) (d .value) (d .value) ∙ ap (λ (u : Bool). round binary32 u (M * 2 ^ y * (M * 2 ^ y)) (2 ^ 298)) (like-signs s) in
-    let a' = subst (λ (z : Float). T (le leastSquare z)) q a in
-    let b' = subst (λ (z : Float). T (le z mostSquare)) q b in
-    let l : 102 < 24 + y = pow-back 102 (24 + y) (lt-of-le-of-lt (no-less (M * 2 ^ y) a' b') (shl-lt 24 y (d .few))) in
+    let q = square-is x s (M * 2 ^ y) (d .value) in
+    let over = root-over (M * 2 ^ y) (subst (λ (z : Float). T (le leastSquare z)) q a) in
+    let under = root-under (M * 2 ^ y) (subst (λ (z : Float). T (le z sixteen)) q b) in
+    let l : 102 < 24 + y = pow-back 102 (24 + y) (lt-of-le-of-lt over (shl-lt 24 y (d .few))) in
     let full : 0x80_0000 ≤ M = leading (d .leading) (omega arith) in
-    let h : 23 + y < 152 = pow-back (23 + y) 152 (lt-of-le-of-lt (le-trans (le-of-eq (pow-add 2 23 y)) (mul-le-mul-right (2 ^ y) full)) (no-more (M * 2 ^ y) a' b')) in
+    let h : 23 + y < 152 = pow-back (23 + y) 152 (lt-of-le-of-lt (le-trans (le-of-eq (pow-add 2 23 y)) (mul-le-mul-right (2 ^ y) full)) under) in
     record { single = f; sign = s; M = M; y = y; value = d .value; few = d .few; low = omega arith; high = omega arith }
   where
     leading : (y ≡ 0) ⊎ (0x80_0000 ≤ M) → 0 < y → 0x80_0000 ≤ M
     leading (inl e) p = absurd (omega arith)
     leading (inr h) p = h
 
-pub ordinary-size : (x : Float) → T (fits binary32 x) → T (le leastSquare (x *f x)) → T (le (x *f x) mostSquare) → Ordinary x
+pub ordinary-size : (x : Float) → T (fits binary32 x) → T (le leastSquare (x *f x)) → T (le (x *f x) sixteen) → Ordinary x
 ordinary-size (fin s m e) f a b = by-digits (fin s m e) s _ _ f (is-finite (fin s m e) s _ _ f refl) a b
 ordinary-size nan f a b = unfold ofBits mul le lt eq in absurd a
 ordinary-size (inf true) f a b = unfold ofBits mul le lt eq in absurd b

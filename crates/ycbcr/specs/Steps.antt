@@ -4,19 +4,15 @@ use Prim.Native.Nat.{ℕ, _*_, _^_, _<_, _≤_}
 use mathlib.Core.List.{List}
 use lib.Dec.{T}
 use lib.ListN.{length, getD}
-use lib.Ieee.{Float, add, binary32, binary64, fits, mul, nan}
+use lib.Ieee.{Float, binary32, fits, nan}
 use lib.Ieee.Exact.{HasValue}
-use Rattle.rounding.specs.Steps.{rounded}
+use Rattle.rounding.specs.Steps.{byF64}
 use Rattle.channels.specs.Channels.{vec}
 use Rattle.ciexyz.specs.declared.Vec3.{Vec3}
 use Rattle.ycbcr.specs.Ycbcr.{raised}
 use Rattle.ycbcr.specs.declared.Constants.{Constants}
 
--- a * b + c at f64, rounded to 24 digits by its pattern
-abbrev pub byF64 : Float → Float → Float → Float
-byF64 a b c = rounded (add binary64 (mul binary64 a b) c)
-
--- `rgbBy` with that in place of `fused`
+-- `rgbBy` with the sums by f64, in place of `fused`
 unfoldable pub quickBy : Constants → Vec3 → Vec3
 quickBy k s =
     vec

@@ -1,10 +1,6 @@
 // One pixel, Cb, Y, Cr in and R, G, B out: by fused products and sums, or by f64.
 ghost use mathlib.Core.Path.{_≡_};
-ghost use mathlib.Core.Bool.{_&&_, not, true};
-ghost use Prim.Native.Nat.{_%_};
-ghost use lib.Dec.{T};
-ghost use lib.Ieee.{binary32, fits, isNan};
-ghost use Rattle.rounding.specs.Steps.{Rounds, moved, rounded};
+ghost use mathlib.Core.Bool.{true};
 ghost use Rattle.channels.specs.Channels.{vec};
 ghost use Rattle.ycbcr.specs.Ycbcr.{rgbBy};
 ghost use Rattle.ycbcr.specs.Steps.{Factors, Ordinary, Ready, quickBy};
@@ -39,26 +35,6 @@ pub(crate) fn is_ready(cb: f32, y: f32, cr: f32) -> bool
     is_ordinary(cb) & is_ordinary(y + 128.0 / 255.0) & is_ordinary(cr)
 }
 
-// An f64 rounded to 24 digits, and whether that is sure: it was not half way.
-struct Narrow {
-    value: f64,
-    sure: bool,
-}
-
-// By the pattern: half of what the last digit weighs is added, and what lies below that digit is dropped.
-fn rounded(s: f64) -> Narrow
-    requires { ⌜ Rounds s ⌝ }
-    ensures { λ r. ⌜ r .value ≡ rounded s ⌝ }
-    ensures { λ r. ⌜ T (fits binary32 (r .value) && not (isNan (r .value))) ⌝ }
-    ensures { λ r. ⌜ (r .sure ≡ true → ¬ (moved s % 0x2000_0000 ≡ 0)) ⌝ }
-{
-    let w = f64::to_bits(s) + 0x1000_0000;
-    Narrow {
-        value: f64::from_bits(w / 0x2000_0000 * 0x2000_0000),
-        sure: w % 0x2000_0000 != 0,
-    }
-}
-
 // R, G, B, and whether they are sure.
 pub(crate) struct Worked {
     pub(crate) red: f32,
@@ -77,14 +53,15 @@ pub(crate) fn by_f64(k: Constants, cbycr: Vec3) -> Worked
     let cb = cbycr.v0 as f64;
     let y = (cbycr.v1 + 128.0 / 255.0) as f64;
     let cr = cbycr.v2 as f64;
-    let red = rounded(cr * (k.red as f64) + y);
-    let with_cr = rounded(cr * (k.cr as f64) + y);
-    let green = rounded(cb * (k.cb as f64) + with_cr.value);
-    let blue = rounded(cb * (k.blue as f64) + y);
+    let red = rounding::rounded(f64::to_bits(cr * (k.red as f64) + y));
+    let with_cr = rounding::rounded(f64::to_bits(cr * (k.cr as f64) + y));
+    let luma_and_cr = f64::from_bits(with_cr.pattern);
+    let green = rounding::rounded(f64::to_bits(cb * (k.cb as f64) + luma_and_cr));
+    let blue = rounding::rounded(f64::to_bits(cb * (k.blue as f64) + y));
     Worked {
-        red: red.value as f32,
-        green: green.value as f32,
-        blue: blue.value as f32,
+        red: f64::from_bits(red.pattern) as f32,
+        green: f64::from_bits(green.pattern) as f32,
+        blue: f64::from_bits(blue.pattern) as f32,
         sure: red.sure & with_cr.sure & green.sure & blue.sure,
     }
 }

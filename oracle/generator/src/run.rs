@@ -70,58 +70,68 @@ fn fixed() -> Vec<Case> {
         .chain(windows())
         .chain(ties())
         .chain(decided())
+        .chain(small())
         .collect()
 }
 
-/// XYB where l, m and s less the roots, or the biases, lie at the ends of what f64 holds exactly: 1/16 and 4, 2^-15 and 2^-6.
+/// XYB where l, m and s less the roots, or the biases, lie at the ends of where f64 is tried: their squares at 0 and 16, the biases at 2^-15 and 2^-6.
 /// All samples are at one end but the last, which is an ordinary one.
 fn windows() -> Vec<Case> {
     let near = |x: f32| [-1, 0, 1].map(|by| f32::from_bits(x.to_bits().wrapping_add_signed(by)));
     let biases = [power(-15), power(-6)].into_iter().flat_map(near);
-    let biases = biases.flat_map(|b| [b, -b]).chain([0.0, -0.0, -0.0037930733]);
+    let biases = biases
+        .flat_map(|b| [b, -b])
+        .chain([0.0, -0.0, -0.0037930733]);
     let mut cases = Vec::new();
     for bias in biases {
-        for end in [power(-4), power(2)] {
+        for end in [0.0, power(2)] {
             let samples = near(end + exact(bias));
-            let channel = [&samples[..], &[0.5 + exact(bias)]].concat();
-            cases.push(Case {
-                start: 3,
-                ops: vec![op(0, &[bias, bias, bias, 255.0])],
-                channels: [vec![0.0; 4], channel.clone(), channel],
-            });
+            cases.push(alike(bias, &[&samples[..], &[0.5 + exact(bias)]].concat()));
         }
     }
     cases
 }
 
-/// XYB without biases of numbers whose cubes have 25 digits, the last a one: each is half way between two floats.
-fn ties() -> Vec<Case> {
-    let odd = (257..=321).step_by(2).map(|p| p as f32);
-    let places = [power(-20), power(-12), power(-8), power(-7), power(4)];
-    let case = |place: f32| {
-        let channel: Vec<f32> = odd.clone().map(|p| p * place).collect();
-        Case {
-            start: 3,
-            ops: vec![op(0, &[0.0, 0.0, 0.0, 255.0])],
-            channels: [vec![0.0; channel.len()], channel.clone(), channel],
-        }
-    };
-    places.map(case).into()
+/// XYB of one bias, l, m and s being alike.
+fn alike(bias: f32, samples: &[f32]) -> Case {
+    Case {
+        start: 3,
+        ops: vec![op(0, &[bias, bias, bias, 255.0])],
+        channels: [vec![0.0; samples.len()], samples.to_vec(), samples.to_vec()],
+    }
 }
 
-/// XYB of such numbers where a bias decides that is too small for f64 beside the cube: 2^-60 beside 1, and 2^-15 beside 2^39. A bias and a sample at a time are out
-/// of what f64 holds exactly; behind it an ordinary sample stands.
+/// XYB of numbers whose cubes have 25 digits, the last a one: each is half way between two floats, without a bias and with one of 2^-9, whose root is 1/8.
+/// The last sample is an ordinary one.
+fn ties() -> Vec<Case> {
+    let odd = (257..=321).step_by(2).map(|p| p as f32);
+    let case = |place: f32, bias: f32| {
+        let tied = odd.clone().map(|p| p * place);
+        let samples: Vec<f32> = tied.chain([0.7]).map(|g| g + exact(bias)).collect();
+        alike(bias, &samples)
+    };
+    let bare = [-20, -12, -8, -7, 4].map(|e| case(power(e), 0.0));
+    let biased = [(-8, power(-9)), (-8, -power(-9)), (-7, power(-9))];
+    let biased = biased.map(|(e, bias)| case(power(e), bias));
+    bare.into_iter().chain(biased).collect()
+}
+
+/// XYB of such numbers where a bias decides that is too small for f64 beside the cube: 2^-60 beside 1, and 2^-15 beside 2^39. Behind each an ordinary sample stands.
 fn decided() -> Vec<Case> {
-    [(power(-60), 257.0 * power(-8)), (power(-15), 257.0 * power(5))]
-        .map(|(bias, g)| {
-            let channel = vec![g + exact(bias), 1.0 + exact(bias)];
-            Case {
-                start: 3,
-                ops: vec![op(0, &[bias, bias, bias, 255.0])],
-                channels: [vec![0.0; 2], channel.clone(), channel],
-            }
-        })
-        .into()
+    [
+        (power(-60), 257.0 * power(-8)),
+        (power(-15), 257.0 * power(5)),
+    ]
+    .map(|(bias, g)| alike(bias, &[g + exact(bias), 1.0 + exact(bias)]))
+    .into()
+}
+
+/// XYB whose cubes are below the normal numbers, without a bias and with the smallest: a cube rounded to 24 digits first is often another float.
+fn small() -> Vec<Case> {
+    let below: Vec<f32> = (1..=60)
+        .map(|k| f32::from_bits(0x2a80_0000 - 9941 * k))
+        .collect();
+    [0.0, power(-149)].map(|bias| alike(bias, &below)).into()
 }
 
 /// An op whose fields are all floats.

@@ -1,41 +1,42 @@
--- `each_fused` makes `cubed` of each sample.
+-- `each_fused` makes `cubed` of each g, in place of its square.
 -- The loop argument is `Rewriting`'s, for the mapped list.
 use Prim.Native.Nat.{_-_, _<_}
-use mathlib.Core.Path.{_≡_, ap, refl, _∙_}
+use mathlib.Core.Path.{_≡_, ap, refl, sym, _∙_}
 use mathlib.Core.List.{map}
 use native.Mathlib.Omega.{arith}
 use borrow.Author.Needs.{needs}
 use lib.ListN.{length}
 use lib.Ieee.{Float, nan}
 use Rattle.notation.specs.F32.{_*f_}
-use Rattle.notation.proofs.Rewriting.{Rewritten, ended, map-begun, map-write}
+use Rattle.notation.proofs.Elements.{map-at}
+use Rattle.notation.proofs.Rewriting.{Rewritten, ended, map-begun, write}
 use Rattle.xyb.specs.Steps.{cubed}
 use Rattle.xyb.proofs.cube.each_fused.Statement.{statement}
 use Rattle.xyb.proofs.cube.each_fused.Tie as tie
 
 abbrev Inv-loop : tie.InvT-loop
-Inv-loop g₀ bias scale n i₀ g i = (n ≡ length g₀) × Rewritten (map (cubed bias scale) g₀) g₀ i g
+Inv-loop h₀ g bias scale n i₀ h i = (n ≡ length g) × Rewritten (map (cubed bias scale) g) h₀ i h
 
 abbrev μ-loop : tie.MeasureT-loop
-μ-loop g₀ bias scale n i₀ g i = length g₀ - i
+μ-loop h₀ g bias scale n i₀ h i = length g - i
 
 loop-holds : tie.Need-loop-holds Inv-loop μ-loop
-loop-holds c = let a = c .before .args in (refl, map-begun (cubed (a .bias) (a .scale)) (a .g .now) (a .g .now) refl)
+loop-holds c = let s = c .before .before in (refl, map-begun (cubed (s .args .bias) (s .args .scale)) (s .args .g .now) (s .args .h .now) (s .pre))
 
 mul-x : tie.Need-mul-x Inv-loop μ-loop
 mul-x c = omega arith
 
-slice-read-x : tie.Need-slice-read-x Inv-loop μ-loop
-slice-read-x c = omega arith
+shared-slice-read-x : tie.Need-shared-slice-read-x Inv-loop μ-loop
+shared-slice-read-x c = omega arith
 
 mul-add-requires : tie.Need-mul-add-requires Inv-loop μ-loop
 mul-add-requires c κs = search needs
 
-mul-g : tie.Need-mul-g Inv-loop μ-loop
-mul-g c = omega arith
+mul-h : tie.Need-mul-h Inv-loop μ-loop
+mul-h c = omega arith
 
-slice-write-g : tie.Need-slice-write-g Inv-loop μ-loop
-slice-write-g c = omega arith
+slice-write-h : tie.Need-slice-write-h Inv-loop μ-loop
+slice-write-h c = omega arith
 
 add-i : tie.Need-add-i Inv-loop μ-loop
 add-i c = omega arith
@@ -47,8 +48,12 @@ loop-again : tie.Need-loop-again Inv-loop μ-loop
 unfolding cubed
 loop-again c =
     let l = c .before .before .before in
-    let a = l .before .before .args in
-    (l .loop .inv .0, map-write (cubed (a .bias) (a .scale)) (l .loop .inv .1) nan (c .mul-add .result *f a .scale) (omega arith) (ap (λ (y : Float). y *f a .scale) (c .mul-add .ensures)))
+    let a = l .before .before .before .args in
+    let h : l .loop .i < length (a .g .now) = omega arith in (
+      l .loop .inv .0,
+      write (l .loop .inv .1) nan (c .mul-add .result *f a .scale) (omega arith)
+          (ap (λ (y : Float). y *f a .scale) (c .mul-add .ensures) ∙ sym (map-at (cubed (a .bias) (a .scale)) (a .g .now) (l .loop .i) nan nan h)),
+    )
 
 same-length : tie.Need-same-length Inv-loop μ-loop
 same-length c = c .before .loop .inv .1 .long
@@ -64,10 +69,10 @@ each-fused-spec =
     μ-loop
     loop-holds
     mul-x
-    slice-read-x
+    shared-slice-read-x
     mul-add-requires
-    mul-g
-    slice-write-g
+    mul-h
+    slice-write-h
     add-i
     loop-less
     loop-again

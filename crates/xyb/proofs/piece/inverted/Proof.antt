@@ -4,6 +4,7 @@ use mathlib.Core.Path.{_≡_, ap, _∙_}
 use mathlib.Core.List.{map}
 use borrow.Author.Needs.{needs}
 use Rattle.channels.specs.Channels.{Channels, channels, each, triples}
+use Rattle.channels.proofs.Holds.{both-hold}
 use Rattle.xyb.specs.Xyb.{mixedBy}
 use Rattle.xyb.specs.Steps.{cubed, shifted}
 use Rattle.xyb.proofs.Composed.{l-composed, m-composed, s-composed}
@@ -17,19 +18,19 @@ cube-requires : tie.Need-cube-requires
 cube-requires c κs =
     let h = c .before .before .before .before .before .before .before .before .before .before .before .before .before .before in
     let s = h .before .before .before .before .before .before .before .before .before .before .before .before .before in
-    (h .shift .ensures .1 .0 .0, (λ e. s .pre .0 e .0, λ e. h .shift .ensures .1 .1 e .0))
+    (h .shift .ensures .1 .0 .0, λ e. let t = both-hold _ _ e in (s .pre .0 (t .0) .0, h .shift .ensures .1 .1 (t .1) .0))
 
 cube-requires-2 : tie.Need-cube-requires-2
 cube-requires-2 c κs =
     let h = c .before .before .before .before .before .before .before .before .before .before .before .before .before .before .before .before .before .before .before in
     let s = h .before .before .before .before .before .before .before .before .before .before .before .before .before in
-    (h .shift .ensures .1 .0 .1, (λ e. s .pre .0 e .1, λ e. h .shift .ensures .1 .1 e .1))
+    (h .shift .ensures .1 .0 .1, λ e. let t = both-hold _ _ e in (s .pre .0 (t .0) .1, h .shift .ensures .1 .1 (t .1) .1))
 
 cube-requires-3 : tie.Need-cube-requires-3
 cube-requires-3 c κs =
     let h = c .before .before .before .before .before .before .before .before .before .before .before .before .before .before .before .before .before .before .before .before .before .before .before .before in
     let s = h .before .before .before .before .before .before .before .before .before .before .before .before .before in
-    (h .shift .ensures .1 .0 .2, (λ e. s .pre .0 e .2, λ e. h .shift .ensures .1 .1 e .2))
+    (h .shift .ensures .1 .0 .2, λ e. let t = both-hold _ _ e in (s .pre .0 (t .0) .2, h .shift .ensures .1 .1 (t .1) .2))
 
 same-length : tie.Need-same-length
 same-length c = search needs

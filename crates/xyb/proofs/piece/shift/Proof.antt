@@ -1,21 +1,21 @@
--- `shift` takes the roots off, squares what it leaves, and says whether all of it is in the window.
--- The loop argument is `InStep`'s for the three channels and `Rewriting`'s for the squares; the test holds for every place that was passed.
+-- `shift` takes the roots off, leaves the squares in place, and says whether all of it is in the window.
+-- The loop argument is `InStep`'s for the squares and `Rewriting`'s for what was squared; the test holds for every place that was passed.
 use Prim.Native.Nat.{_-_, _<_}
 use mathlib.Core.Path.{_≡_, ap, refl, subst, sym, _∙_}
 use mathlib.Core.Bool.{_&&_, true}
-use mathlib.Core.List.{List, map}
+use mathlib.Core.List.{map}
 use native.Mathlib.Omega.{arith}
-use lib.ListN.{getD, length, length-map}
+use lib.ListN.{getD, length}
 use lib.Ieee.{Float, binary32, le, nan}
 use lib.Ieee.Fits.{sub-fits}
-use Rattle.notation.proofs.Elements.{map-at}
 use Rattle.notation.proofs.Rewriting.{Rewritten, begun, ended, write}
 use Rattle.ciexyz.specs.declared.Vec3.{Vec3}
 use Rattle.channels.specs.Channels.{Channels, channels, each, triples, v0Of, v1Of, v2Of, vec}
 use Rattle.channels.proofs.Holds.{both-hold}
-use Rattle.channels.proofs.InStep.{Stepped, stepped, stepped-at, steps-begun, steps-ended}
-use Rattle.channels.proofs.Rows.{length-part}
-use Rattle.xyb.specs.Steps.{AllWithin, least, most, shifted, squared}
+use Rattle.channels.proofs.InStep.{Stepped, stepped, steps-begun, steps-ended, still-row}
+use Rattle.channels.proofs.Rows.{length-part, part-at}
+use Rattle.xyb.specs.Steps.{AllWithin, most, shifted, squared, squares}
+use Rattle.xyb.proofs.Composed.{parts}
 use Rattle.xyb.proofs.Holds.{Before, before-next}
 use Rattle.xyb.proofs.piece.shift.Statement.{statement}
 use Rattle.xyb.proofs.piece.shift.Tie as tie
@@ -23,8 +23,7 @@ use Rattle.xyb.proofs.piece.shift.Tie as tie
 abbrev Inv-loop : tie.InvT-loop
 Inv-loop roots x₀ y₀ b₀ p₀ q₀ r₀ n within₀ i₀ x y b p q r within i =
     let R = each (shifted roots) (channels x₀ y₀ b₀) in
-    (n ≡ length x₀) × Stepped (shifted roots) x₀ y₀ b₀ i x y b
-    × Rewritten (map squared (R .a)) p₀ i p × Rewritten (map squared (R .b)) q₀ i q × Rewritten (map squared (R .c)) r₀ i r
+    (n ≡ length x₀) × Stepped (squares roots) x₀ y₀ b₀ i x y b × Rewritten (R .a) p₀ i p × Rewritten (R .b) q₀ i q × Rewritten (R .c) r₀ i r
     × (within ≡ true → Before i (R .a) × Before i (R .b) × Before i (R .c))
 
 abbrev μ-loop : tie.MeasureT-loop
@@ -34,13 +33,12 @@ loop-holds : tie.Need-loop-holds Inv-loop μ-loop
 loop-holds c =
     let a = c .args in
     let e = c .pre .0 in
-    let R = each (shifted (a .roots)) (channels (a .x .now) (a .y .now) (a .b .now)) in
     let long = length-part vec (shifted (a .roots)) (a .x .now) (a .y .now) (a .b .now) (e .0) (e .1) in (
       refl,
-      steps-begun (shifted (a .roots)) (a .x .now) (a .y .now) (a .b .now) e,
-      begun (map squared (R .a)) _ (length-map (R .a) squared ∙ long v0Of ∙ sym (c .pre .1 .0)),
-      begun (map squared (R .b)) _ (length-map (R .b) squared ∙ long v1Of ∙ sym (c .pre .1 .1)),
-      begun (map squared (R .c)) _ (length-map (R .c) squared ∙ long v2Of ∙ sym (c .pre .1 .2)),
+      steps-begun (squares (a .roots)) (a .x .now) (a .y .now) (a .b .now) e,
+      begun _ _ (long v0Of ∙ sym (c .pre .1 .0)),
+      begun _ _ (long v1Of ∙ sym (c .pre .1 .1)),
+      begun _ _ (long v2Of ∙ sym (c .pre .1 .2)),
       λ w. (λ k l. absurd (omega arith), λ k l. absurd (omega arith), λ k l. absurd (omega arith)),
     )
 
@@ -62,24 +60,6 @@ mul-w c = omega arith
 slice-read-w : tie.Need-slice-read-w Inv-loop μ-loop
 slice-read-w c = omega arith
 
-mul-x : tie.Need-mul-x Inv-loop μ-loop
-mul-x c = omega arith
-
-slice-write-x : tie.Need-slice-write-x Inv-loop μ-loop
-slice-write-x c = omega arith
-
-mul-y : tie.Need-mul-y Inv-loop μ-loop
-mul-y c = omega arith
-
-slice-write-y : tie.Need-slice-write-y Inv-loop μ-loop
-slice-write-y c = omega arith
-
-mul-b : tie.Need-mul-b Inv-loop μ-loop
-mul-b c = omega arith
-
-slice-write-b : tie.Need-slice-write-b Inv-loop μ-loop
-slice-write-b c = omega arith
-
 mul-p : tie.Need-mul-p Inv-loop μ-loop
 mul-p c = omega arith
 
@@ -98,6 +78,24 @@ mul-r c = omega arith
 slice-write-r : tie.Need-slice-write-r Inv-loop μ-loop
 slice-write-r c = omega arith
 
+mul-x : tie.Need-mul-x Inv-loop μ-loop
+mul-x c = omega arith
+
+slice-write-x : tie.Need-slice-write-x Inv-loop μ-loop
+slice-write-x c = omega arith
+
+mul-y : tie.Need-mul-y Inv-loop μ-loop
+mul-y c = omega arith
+
+slice-write-y : tie.Need-slice-write-y Inv-loop μ-loop
+slice-write-y c = omega arith
+
+mul-b : tie.Need-mul-b Inv-loop μ-loop
+mul-b c = omega arith
+
+slice-write-b : tie.Need-slice-write-b Inv-loop μ-loop
+slice-write-b c = omega arith
+
 add-i : tie.Need-add-i Inv-loop μ-loop
 add-i c = omega arith
 
@@ -105,43 +103,36 @@ loop-less : tie.Need-loop-less Inv-loop μ-loop
 loop-less c = omega arith
 
 loop-again : tie.Need-loop-again Inv-loop μ-loop
-unfolding shifted
+unfolding shifted squares
 loop-again c =
     let o = c .before .before .before .before .before .before .before in
     let t = o .loop in
     let v = t .inv in
     let a = o .before .args in
+    let e = o .before .pre .0 in
     let i = t .i in
     let R = each (shifted (a .roots)) (channels (a .x .now) (a .y .now) (a .b .now)) in
-    let g = shifted (a .roots) (vec (getD (t .x) i nan) (getD (t .y) i nan) (getD (t .b) i nan)) in
+    let row = vec (getD (t .x) i nan) (getD (t .y) i nan) (getD (t .b) i nan) in
+    let g = shifted (a .roots) row in
     let h : i < length (a .x .now) = omega arith in
-    let at : (part : Vec3 → Float) → part g ≡ getD (map part (map (shifted (a .roots)) (triples (a .x .now) (a .y .now) (a .b .now)))) i nan = stepped-at (v .1) g h refl in
-    let sq : (gs : List Float) (k : Float) → k ≡ getD gs i nan → i < length gs → squared k ≡ getD (map squared gs) i nan = λ gs k e l. ap squared e ∙ sym (map-at squared gs i nan nan l) in
+    let at : (part : Vec3 → Float) → part g ≡ getD (map part (map (shifted (a .roots)) (triples (a .x .now) (a .y .now) (a .b .now)))) i nan =
+    λ part. ap (λ (s : Vec3). part (shifted (a .roots) s)) (still-row (v .1) h) ∙ sym (part-at vec (shifted (a .roots)) (a .x .now) (a .y .now) (a .b .now) (e .0) (e .1) part i nan h) in
     let hp : i < length (a .p .now) = omega arith in
     let hq : i < length (a .q .now) = omega arith in
-    let hr : i < length (a .r .now) = omega arith in
-    let ep = at v0Of in
-    let eq = at v1Of in
-    let er = at v2Of in
-    let lp : i < length (R .a) = omega (arith, v .2 .whole, length-map (R .a) squared) in
-    let lq : i < length (R .b) = omega (arith, v .3 .whole, length-map (R .b) squared) in
-    let lr : i < length (R .c) = omega (arith, v .4 .whole, length-map (R .c) squared) in (
+    let hr : i < length (a .r .now) = omega arith in (
       v .0,
-      stepped (v .1) g h refl,
-      write (v .2) nan (squared (g .v0)) hp (sq (R .a) (g .v0) ep lp),
-      write (v .3) nan (squared (g .v1)) hq (sq (R .b) (g .v1) eq lq),
-      write (v .4) nan (squared (g .v2)) hr (sq (R .c) (g .v2) er lr),
-      λ e.
-          let s2 = both-hold _ (le (g .v2) most) e in
-          let s1 = both-hold _ (le least (g .v2)) (s2 .0) in
-          let m2 = both-hold _ (le (g .v1) most) (s1 .0) in
-          let m1 = both-hold _ (le least (g .v1)) (m2 .0) in
-          let l2 = both-hold _ (le (g .v0) most) (m1 .0) in
-          let l1 = both-hold _ (le least (g .v0)) (l2 .0) in
-          let w = v .5 (l1 .0) in (
-            before-next i (R .a) (g .v0) (sub-fits binary32 _ _) ep (l1 .1) (l2 .1) (w .0),
-            before-next i (R .b) (g .v1) (sub-fits binary32 _ _) eq (m1 .1) (m2 .1) (w .1),
-            before-next i (R .c) (g .v2) (sub-fits binary32 _ _) er (s1 .1) (s2 .1) (w .2),
+      stepped (v .1) (squares (a .roots) row) h refl,
+      write (v .2) nan (g .v0) hp (at v0Of),
+      write (v .3) nan (g .v1) hq (at v1Of),
+      write (v .4) nan (g .v2) hr (at v2Of),
+      λ z.
+          let s2 = both-hold _ (le (squared (g .v2)) most) z in
+          let m2 = both-hold _ (le (squared (g .v1)) most) (s2 .0) in
+          let l2 = both-hold _ (le (squared (g .v0)) most) (m2 .0) in
+          let w = v .5 (l2 .0) in (
+            before-next i (R .a) (g .v0) (sub-fits binary32 _ _) (at v0Of) (l2 .1) (w .0),
+            before-next i (R .b) (g .v1) (sub-fits binary32 _ _) (at v1Of) (m2 .1) (w .1),
+            before-next i (R .c) (g .v2) (sub-fits binary32 _ _) (at v2Of) (s2 .1) (w .2),
           ),
     )
 
@@ -164,29 +155,31 @@ same-length-6 : tie.Need-same-length-6 Inv-loop μ-loop
 same-length-6 c = c .before .loop .inv .4 .long
 
 returns : tie.Need-returns Inv-loop μ-loop
+unfolding squares
 returns c =
     let t = c .before .loop in
     let v = t .inv in
     let a = c .before .before .args in
-    let R = each (shifted (a .roots)) (channels (a .x .now) (a .y .now) (a .b .now)) in
     let z = c .before .before .pre in
-    let e : channels (t .x) (t .y) (t .b) ≡ R = steps-ended (v .1) (omega arith) in
-    let ex : t .x ≡ R .a = ap (λ (s : Channels). s .a) e in
-    let ey : t .y ≡ R .b = ap (λ (s : Channels). s .b) e in
-    let eb : t .b ≡ R .c = ap (λ (s : Channels). s .c) e in
-    let lx : length (t .x) ≡ length (a .x .now) = v .1 .on-r .long in
-    let ly : length (t .y) ≡ length (a .y .now) = v .1 .on-g .long in
-    let lb : length (t .b) ≡ length (a .b .now) = v .1 .on-b .long in (
-      e,
+    let ts = triples (a .x .now) (a .y .now) (a .b .now) in
+    let S = each (squares (a .roots)) (channels (a .x .now) (a .y .now) (a .b .now)) in
+    let e : channels (t .x) (t .y) (t .b) ≡ S = steps-ended (v .1) (omega arith) in
+    let ep = ended (v .2) (omega arith) in
+    let eq = ended (v .3) (omega arith) in
+    let er = ended (v .4) (omega arith) in (
+      (λ i. channels (ep i) (eq i) (er i)),
       (
         (
-          ended (v .2) (omega arith) ∙ ap (map squared) (sym ex),
-          ended (v .3) (omega arith) ∙ ap (map squared) (sym ey),
-          ended (v .4) (omega arith) ∙ ap (map squared) (sym eb),
+          ap (λ (s : Channels). s .a) e ∙ sym (parts squared v0Of (shifted (a .roots)) (squares (a .roots)) (λ t. refl) ts) ∙ ap (map squared) (sym ep),
+          ap (λ (s : Channels). s .b) e ∙ sym (parts squared v1Of (shifted (a .roots)) (squares (a .roots)) (λ t. refl) ts) ∙ ap (map squared) (sym eq),
+          ap (λ (s : Channels). s .c) e ∙ sym (parts squared v2Of (shifted (a .roots)) (squares (a .roots)) (λ t. refl) ts) ∙ ap (map squared) (sym er),
         ),
         λ q.
             let w = v .5 q in
-            (subst AllWithin (sym ex) (λ k l. w .0 k (omega arith)), subst AllWithin (sym ey) (λ k l. w .1 k (omega arith)), subst AllWithin (sym eb) (λ k l. w .2 k (omega arith))),
+            let lp = v .2 .long in
+            let lq = v .3 .long in
+            let lr = v .4 .long in
+            (subst AllWithin (sym ep) (λ k l. w .0 k (omega (arith, v .2 .whole))), subst AllWithin (sym eq) (λ k l. w .1 k (omega (arith, v .3 .whole))), subst AllWithin (sym er) (λ k l. w .2 k (omega (arith, v .4 .whole)))),
       ),
     )
 
@@ -203,18 +196,18 @@ shift-spec =
     slice-read-v
     mul-w
     slice-read-w
-    mul-x
-    slice-write-x
-    mul-y
-    slice-write-y
-    mul-b
-    slice-write-b
     mul-p
     slice-write-p
     mul-q
     slice-write-q
     mul-r
     slice-write-r
+    mul-x
+    slice-write-x
+    mul-y
+    slice-write-y
+    mul-b
+    slice-write-b
     add-i
     loop-less
     loop-again
