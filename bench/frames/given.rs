@@ -1,6 +1,7 @@
 //! The loops of jxl-color 0.11.0, as `bench/run frames` cut them from the given files; of screen bytes, which it lacks, a plain loop of 02's rule (W2).
 
 use crate::samples::{BIAS, Frame, INTENSITY, Kind, MATRIX};
+use std::hint::black_box;
 
 mod xyb {
     include!(concat!(env!("CUT"), "/xyb.rs"));
@@ -43,24 +44,26 @@ fn screen(samples: &[f32], bytes: &mut [u8]) {
 
 #[inline(never)]
 fn mixed_lms(dispatched: bool, xyb: [&mut [f32]; 3]) {
+    let (bias, intensity) = black_box((BIAS, INTENSITY));
     match dispatched {
-        true => xyb::run(xyb, BIAS, INTENSITY),
-        false => xyb::generic(xyb, BIAS, INTENSITY),
+        true => xyb::run(xyb, bias, intensity),
+        false => xyb::generic(xyb, bias, intensity),
     }
 }
 
+/// The numbers of a plan are not known when the crate is built, and so not to these loops either.
 pub fn make(kind: Kind, dispatched: bool, frame: &mut Frame) {
     let [a, b, c] = &mut frame.channels;
     let mut three: [&mut [f32]; 3] = [a, b, c];
     match kind {
         Kind::Xyb => mixed_lms(dispatched, three),
-        Kind::Matrix => matrix(&MATRIX, &mut three),
+        Kind::Matrix => matrix(black_box(&MATRIX), &mut three),
         Kind::Both | Kind::Counted | Kind::Block => {
             mixed_lms(dispatched, three);
             let [a, b, c] = &mut frame.channels;
-            matrix(&MATRIX, &mut [a, b, c]);
+            matrix(black_box(&MATRIX), &mut [a, b, c]);
         }
-        Kind::Clip => clip(&mut three, 3),
+        Kind::Clip => clip(&mut three, black_box(3)),
         Kind::Screen => screen(three[0], &mut frame.bytes),
         Kind::Ycbcr if dispatched => ycbcr::ycbcr_to_rgb(three),
         Kind::Ycbcr => ycbcr::generic(three),

@@ -1,6 +1,7 @@
 // How many samples are infinite or NaN, and what an op's own step reports.
 ghost use mathlib.Core.Path.{_≡_};
-ghost use Prim.Native.Nat.{_+_};
+ghost use Prim.Native.Nat.{_+_, _≤_};
+ghost use lib.ListN.{length};
 ghost use Rattle.channels.specs.Channels.{channels};
 ghost use Rattle.counts.specs.Bad.{oneIfBad, badIn, badIf, held, countOf, reportOf};
 use channels::Stepping;
@@ -12,21 +13,37 @@ pub struct Stepped {
 }
 
 // 1 for a bad sample, else 0. One that is neither infinite nor NaN lies between the infinities.
-fn one_if_bad(x: f32) -> u64
+fn one_if_bad(x: f32) -> u32
     ensures { λ r. ⌜ r ≡ oneIfBad x ⌝ }
 {
     let infinity = f32::from_bits(0x7f80_0000);
-    (!(x < infinity) | !(-infinity < x)) as u64
+    (!(x < infinity) | !(-infinity < x)) as u32
+}
+
+// Of a piece, in a number as wide as a sample: a processor counts four at once.
+fn bad_in_piece(samples: &[f32]) -> u32
+    requires { ⌜ length (now samples) ≤ 256 ⌝ }
+    ensures { λ r. ⌜ r ≡ badIn (now (samples .entry)) ⌝ }
+{
+    let mut bad: u32 = 0;
+    let mut i: usize = 0;
+    while i < samples.len() {
+        bad += one_if_bad(samples[i]);
+        i += 1;
+    }
+    bad
 }
 
 fn bad_in(samples: &[f32]) -> u64
     ensures { λ r. ⌜ r ≡ badIn (now (samples .entry)) ⌝ }
 {
+    let n = samples.len();
     let mut bad: u64 = 0;
-    let mut i: usize = 0;
-    while i < samples.len() {
-        bad += one_if_bad(samples[i]);
-        i += 1;
+    let mut j: usize = 0;
+    while j < n {
+        let e = j + channels::next_piece(n - j);
+        bad += bad_in_piece(&samples[j..e]) as u64;
+        j = e;
     }
     bad
 }

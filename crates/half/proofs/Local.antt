@@ -7,7 +7,7 @@ use mathlib.Core.List.{List, _++_}
 use native.Mathlib.Omega.{arith}
 use lib.ListN.{getD, length, length-append, List·getD-append}
 use lib.Seq.{getD-append-add}
-use Rattle.half.specs.Widening.{MadeFrom, besideOf, mixOf, widened, widenedAt}
+use Rattle.half.specs.Widening.{MadeFrom, besideOf, widened, widenedAt}
 use Rattle.half.proofs.Lines.{line-at}
 use Rattle.half.proofs.Rules.{widened-at}
 

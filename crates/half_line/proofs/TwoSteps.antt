@@ -12,7 +12,6 @@ use Rattle.firmware.specs.Firmware.{weightsOf}
 use Rattle.firmware.specs.Conversion.{conversionOf, leftBy}
 use Rattle.planes.specs.Planes.{Planes, eachPixel, equallyLong, planes, sameLengths}
 use Rattle.half.specs.Twice.{fitsTwice}
-use Rattle.half.specs.Widening.{widened}
 use Rattle.half.specs.Fitting.{fittingOf, widenedInto, widening}
 use Rattle.half.specs.declared.Fitting.the-variants.{Done, Unfit}
 use Rattle.half_line.specs.Line.{lineFits, widenedBoth}

@@ -1,6 +1,6 @@
 -- Joining is associative where neither side is refused, and the empty list of the right width is its unit on either side.
 -- A side that is not refused has three lists behind one another; a refused inner join is no list, and the outer one is refused too.
-use Prim.Native.Nat.{ℕ, _+_}
+use Prim.Native.Nat.{ℕ}
 use mathlib.Core.Path.{_≡_, refl, ap, sym, subst, _∙_}
 use mathlib.Core.List.{List, [], _++_, append-assoc, append-nil}
 use mathlib.Core.Logic.{_⊎_, inl, inr, ⊎-elim}

@@ -1,6 +1,6 @@
 -- "A join not refused passes the check with the second list's end width", and its end width is true. (02, W12)
 -- The ops of the first lead to the second's start width, and those of the second from there to its end width.
-use Prim.Native.Nat.{ℕ, _+_}
+use Prim.Native.Nat.{ℕ}
 use mathlib.Core.Path.{_≡_, refl, ap, sym, subst, _∙_}
 use mathlib.Core.List.{List, _++_}
 use native.Mathlib.Omega.{arith}

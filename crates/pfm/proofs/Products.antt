@@ -1,10 +1,10 @@
 -- Whether a number is a product is told by its quotient and what is left over.
 -- It is the quotient times the divisor and what is left over.
-use Prim.Native.Nat.{ℕ, _*_, _+_, _/_, _%_, _<_}
-use mathlib.Core.Path.{_≡_, ap, refl, sym, _∙_}
+use Prim.Native.Nat.{ℕ, _*_, _/_, _%_, _<_}
+use mathlib.Core.Path.{_≡_, refl, sym, _∙_}
 use mathlib.Core.Bool.{Bool, true, false, _&&_}
 use native.Mathlib.Nat.{add-zero, div-add-mod', mul-div-cancel, mul-mod-left}
-use borrow.Author.Tests.{eq-eqb, eqb-false, eqb-true, ne-eqb}
+use borrow.Author.Tests.{eq-eqb, eqb-false, eqb-true}
 use lib.Dec.{eqb}
 
 module _ (n count size : ℕ) (p : 0 < size) where

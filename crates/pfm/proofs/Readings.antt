@@ -6,7 +6,6 @@ use mathlib.Core.Bool.{true, false}
 use mathlib.Core.List.{List, [], _∷_, _++_}
 use Rattle.notation.specs.Text.{ascii}
 use Rattle.pfm.specs.Header.{headerOf}
-use Rattle.pfm.specs.declared.headers.Header.{Header}
 use Rattle.pfm.specs.declared.headers.Stage.the-variants.{Whole, Start, Height, Done, NotPfm, BadSize, BadScale}
 
 -- a line, and what comes behind it

@@ -7,7 +7,7 @@ ghost use lib.ListN.{length, replicate};
 ghost use Rattle.notation.specs.F32.{zero};
 ghost use Rattle.channels.specs.Channels.{EquallyLong, channels, triples};
 ghost use Rattle.buffer.specs.Buffer.{Room, Put};
-ghost use Rattle.writer.specs.Bytes.{joined, u32Bytes};
+ghost use Rattle.writer.specs.Bytes.{joined};
 ghost use Rattle.pfm.specs.Samples.{wordAt, sampleAt, channelIn, fitsBy, fits, threeFrom, oneFrom, wordBytes, sampleBytes, pixelBytes, threeTo, fitsOne, oneTo, sizeOf, channelsFrom};
 use ciexyz::Vec3;
 

@@ -3,8 +3,8 @@
 use mathlib.Core.Path.{_≡_, ap, refl, subst, sym, _∙_}
 use mathlib.Core.Logic.{_⊎_, inl, inr}
 use mathlib.Core.Bool.{Bool, _&&_, cond, false, not, true}
-use Prim.Native.Nat.{ℕ, suc, zero, _+_, _-_, _*_, _/_, _%_, _^_, _≤_, _<_}
-use native.Mathlib.Nat.{add-mul, eq-or-lt-of-le, le-of-eq, le-trans, lt-of-le-of-lt, lt-of-lt-of-le, mul-assoc, mul-le-mul-right, suc-mul, zero-mul}
+use Prim.Native.Nat.{ℕ, suc, _+_, _-_, _*_, _/_, _%_, _^_, _≤_, _<_}
+use native.Mathlib.Nat.{add-mul, eq-or-lt-of-le, le-of-eq, le-trans, lt-of-le-of-lt, lt-of-lt-of-le, mul-assoc, mul-le-mul-right}
 use native.Mathlib.Omega.{arith}
 use borrow.Author.Tests.{eqb-false, not-true}
 use lib.Dec.{T, lit<, ltb}
@@ -22,7 +22,7 @@ use Rattle.rounding.proofs.Cut.{not-nan-of}
 use Rattle.rounding.proofs.Midpoint.{N-ge, N-le, again, has, second}
 use Rattle.rounding.proofs.Placed.{pow-back}
 use Rattle.rounding.proofs.Single.{bits-at, rescale}
-use Rattle.rounding.proofs.Sums.{multiple-of, one-rounding}
+use Rattle.rounding.proofs.Sums.{far-apart, multiple-of, one-rounding, zero-or-more}
 
 -- the test of a tie
 pub surely : (x : Float) → sure (toBits binary64 x) ≡ true → Sure x
@@ -158,10 +158,6 @@ settled t D w b lo hi (inr d) h =
     pred z p = omega arith
 
 -- ---- a sum of two multiples of 2 ^ w
-zero-or-more : (E w : ℕ) → (E * 2 ^ w ≡ 0) ⊎ (2 ^ w ≤ E * 2 ^ w)
-zero-or-more zero w = inl (zero-mul (2 ^ w))
-zero-or-more (suc E) w = inr (omega (arith, suc-mul E (2 ^ w)))
-
 pub settled-sum : (X Y w b : ℕ) → 172 ≤ w → b ≤ 424 → X * 2 ^ w < 2 ^ b → Y * 2 ^ w < 2 ^ b → (s t : Bool)
     → Settled w (suc b) (sum binary64 s (X * 2 ^ w) t (Y * 2 ^ w) (2 ^ 298)) (sum binary32 s (X * 2 ^ w) t (Y * 2 ^ w) (2 ^ 298))
 settled-sum X Y w b lo hi xl yl s t =
@@ -175,9 +171,4 @@ pub settled-apart : (A B w b : ℕ) → 172 ≤ w → b ≤ 424 → A + 2 ^ w �
 settled-apart A B w b lo hi far bl s t =
     let r = one-rounding s A t B (2 ^ 298) in
     let al : A < 2 ^ b = lt-of-le-of-lt (omega arith) bl in
-    rw (r .is binary64, r .is binary32) (settled (r .sign) (r .D) w (suc b) lo (omega arith) (left (r .which)) (lt-of-le-of-lt (r .under) (add-lt-pow b al bl)))
-  where
-    left : {D : ℕ} → (D ≡ A + B) ⊎ ((D ≡ A - B) ⊎ (D ≡ B - A)) → (D ≡ 0) ⊎ (2 ^ w ≤ D)
-    left (inl e) = inr (omega arith)
-    left (inr (inl e)) = inl (omega arith)
-    left (inr (inr e)) = inr (omega arith)
+    rw (r .is binary64, r .is binary32) (settled (r .sign) (r .D) w (suc b) lo (omega arith) (far-apart A B w far r) (lt-of-le-of-lt (r .under) (add-lt-pow b al bl)))

@@ -3,16 +3,14 @@
 use mathlib.Core.Path.{_≡_, refl, sym, ap, _∙_, subst}
 use mathlib.Core.Logic.{_⊎_, inl, inr}
 use mathlib.Core.Bool.{Bool, cond}
-use Prim.Native.Nat.{ℕ, zero, suc, _+_, _-_, _*_, _/_, _%_, _^_, _≤_, _<_}
-use native.Mathlib.Nat.{le-refl, le-trans, le-of-eq, le-of-lt, lt-of-lt-of-le, lt-of-le-of-lt, eq-or-lt-of-le, mul-le-mul-right, mul-one, mul-comm, mul-assoc, mul-right-comm, mul-pos, mul-div-cancel, suc-add, mod-lt, eq-of-mul-eq-mul-right}
+use Prim.Native.Nat.{ℕ, suc, _+_, _-_, _*_, _/_, _^_, _≤_, _<_}
+use native.Mathlib.Nat.{le-refl, le-trans, le-of-eq, lt-of-le-of-lt, eq-or-lt-of-le, mul-le-mul-right, mul-assoc, mul-right-comm, mul-pos, mul-div-cancel, suc-add, eq-of-mul-eq-mul-right}
 use native.Mathlib.Omega.{arith}
-use lib.Dec.{T, lit≤, lit<}
-use lib.Pow.{pow-add, pow-pos, pow-mono, pow-lt, shl-lt}
-use lib.Ieee.{Float, nan, inf, fin, binary32, binary64, size, units, round, fits, isNan, ofBits, toBits, up, down}
-use lib.Ieee.Fits.{and-i, down-pos, round-fits, fits-widens}
+use lib.Pow.{pow-add, pow-pos, pow-lt, shl-lt}
+use lib.Ieee.{Float, nan, inf, fin, binary32, binary64, size, units, round, toBits, up, down}
+use lib.Ieee.Fits.{down-pos}
 use lib.Ieee.Exact.{HasValue, units-val}
 use lib.Ieee.Nearest.{closest, closest-same}
-use lib.Ieee.Bits.{ofBits-toBits}
 use Rattle.rounding.proofs.Rounding.{round-at}
 use Rattle.binary32.proofs.Size.{size-exact}
 use Rattle.rounding.proofs.Closest.{closest-le, closest-ge}

@@ -1,7 +1,7 @@
 -- An f32 whose square is 16 at most, and the square itself, by their digits.
 -- A larger one would have a square of 64 at least, since rounding keeps the order; the square's own value is bounded by 16.
 use mathlib.Core.Path.{_≡_, ap, refl, subst, sym, _∙_}
-use mathlib.Core.Logic.{_⊎_, inl, inr}
+use mathlib.Core.Logic.{inl, inr}
 use mathlib.Core.Bool.{Bool, false, true}
 use Prim.Native.Nat.{ℕ, _*_, _^_, _≤_, _<_, zero-le}
 use native.Mathlib.Nat.{eq-zero-or-pos, le-of-mul-le-mul-right, mul-le-mul, mul-le-mul-right}

@@ -3,8 +3,8 @@
 use mathlib.Core.Path.{ap, refl, sym, _∙_, _≡_}
 use mathlib.Core.Logic.{_⊎_, inl, inr}
 use mathlib.Core.Bool.{_&&_, Bool, Bool·beq, cond, false, not, true}
-use Prim.Native.Nat.{_*_, _+_, _-_, _<_, _^_, ℕ, _≤_}
-use native.Mathlib.Nat.{add-mul, eq-or-lt-of-le, le-of-eq, le-of-lt, le-refl, lt-of-le-of-lt, lt-of-lt-of-le, lt-of-mul-lt-mul-right, mul-assoc, mul-comm, mul-lt-mul-of-pos-right, mul-mul-mul-comm, mul-pos, mul-right-comm, mul-sub, sub-self}
+use Prim.Native.Nat.{_*_, _+_, _-_, _<_, _^_, suc, zero, ℕ, _≤_}
+use native.Mathlib.Nat.{add-mul, eq-or-lt-of-le, le-of-eq, le-of-lt, le-refl, lt-of-le-of-lt, lt-of-lt-of-le, lt-of-mul-lt-mul-right, mul-assoc, mul-comm, mul-lt-mul-of-pos-right, mul-mul-mul-comm, mul-pos, mul-right-comm, mul-sub, sub-self, suc-mul, zero-mul}
 use native.Mathlib.Omega.{arith}
 use borrow.Author.Tests.{le-ltb, lt-ltb}
 use lib.Dec.{T, ltb, ltb→lt, lt→ltb}
@@ -109,6 +109,20 @@ multiple-of X Y w r = by (r .which)
     by (inl e) = record { E = X + Y; is = e ∙ sym (add-mul X Y (2 ^ w)); under = le-refl (X + Y) }
     by (inr (inl e)) = record { E = X - Y; is = e ∙ sym (sub-mul X Y (2 ^ w)); under = omega arith }
     by (inr (inr e)) = record { E = Y - X; is = e ∙ sym (sub-mul Y X (2 ^ w)); under = omega arith }
+
+-- so that it is zero or no smaller,
+pub zero-or-more : (E w : ℕ) → (E * 2 ^ w ≡ 0) ⊎ (2 ^ w ≤ E * 2 ^ w)
+zero-or-more zero w = inl (zero-mul (2 ^ w))
+zero-or-more (suc E) w = inr (omega (arith, suc-mul E (2 ^ w)))
+
+-- and so it is where the second part is larger than the first by so much
+pub far-apart : (A B w : ℕ) → A + 2 ^ w ≤ B → {s t : Bool} {c : ℕ} (r : OneRounding s A t B c) → (r .D ≡ 0) ⊎ (2 ^ w ≤ r .D)
+far-apart A B w far r = by (r .which)
+  where
+    by : {D : ℕ} → (D ≡ A + B) ⊎ ((D ≡ A - B) ⊎ (D ≡ B - A)) → (D ≡ 0) ⊎ (2 ^ w ≤ D)
+    by (inl e) = inr (omega arith)
+    by (inr (inl e)) = inl (omega arith)
+    by (inr (inr e)) = inr (omega arith)
 
 -- ---- the sum of two floats, by their sizes over one divisor
 pub add-at : (f : Format) (x y : Float) (s t : Bool) (a b c : ℕ) → 0 < c → HasValue x s a c → HasValue y t b c → add f x y ≡ sum f s a t b c

@@ -1,6 +1,6 @@
 -- The two steps of a piece are the inversion.
 -- Taking the roots off and then cubing is `mixed`, on each channel by itself.
-use mathlib.Core.Path.{_≡_, ap, refl}
+use mathlib.Core.Path.{_≡_, refl}
 use mathlib.Core.List.{List, [], _∷_, map}
 use lib.Ieee.{Float}
 use Rattle.ciexyz.specs.declared.Vec3.{Vec3}

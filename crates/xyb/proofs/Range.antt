@@ -1,7 +1,7 @@
 -- Where the square of g is 16 at most and the bias of a size from 2 ^ -15 to 2 ^ -6, g * g * g + bias is a zero or in the range of f32's normal numbers.
 -- Either both end at 2 ^ -126 or above, and so does their sum; or the product is below 2 ^ -78, and the bias far above it (`settled-fused`, `apart-fused`).
 use mathlib.Core.Path.{_≡_, ap, refl, sym, subst, _∙_}
-use mathlib.Core.Logic.{_⊎_, inl, inr}
+use mathlib.Core.Logic.{inl, inr}
 use mathlib.Core.Bool.{Bool, _&&_, false, not, true}
 use Prim.Native.Nat.{ℕ, _+_, _-_, _*_, _^_, _≤_, _<_}
 use native.Mathlib.Nat.{le-of-eq, le-of-lt, le-of-mul-le-mul-right, le-refl, le-trans, lt-of-le-of-lt, lt-of-lt-of-le, mul-assoc, mul-le-mul, mul-le-mul-right, mul-mul-mul-comm, mul-one}

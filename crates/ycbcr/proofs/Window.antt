@@ -1,4 +1,4 @@
--- What f64 may be tried on: a sample that is a zero, or whose square lies from 1e-28 to 16, and the constants; then no sum is too small or too large for f32.
+-- What f64 may be tried on: a chroma that is a zero, or whose square lies from 1e-28 to 16, and the constants; then no sum is too small or too large for f32.
 -- A number's size gives the place of its last digit; a sum of two is a whole number of the smaller of their places, so that it is a zero or no smaller (`settled-fused`).
 use Prim.Native.Nat.{ℕ, suc, _+_, _*_, _^_, _≤_, _<_}
 use mathlib.Core.Path.{_≡_, ap, refl, sym, subst, _∙_}
@@ -26,7 +26,7 @@ use Rattle.fused.proofs.Product.{product-lt}
 use Rattle.fused.proofs.Twice.{settled-fused}
 use Rattle.ycbcr.specs.Steps.{Digits, Factor, Ordinary}
 
--- ---- a sample
+-- ---- a sample, by its size
 -- 1e-28
 abbrev pub leastSquare : Float
 leastSquare = bits 0x10fd_87b6
@@ -53,11 +53,9 @@ root-over W a = elim (split-le (2 ^ 102) W) [
       absurd (below-least (le-trans-positive leastSquare (round binary32 false (W * W) (2 ^ 298)) _ least-positive (between _ _ _ least-positive small-positive a b) small-positive a b))
 ]
 
-by-digits : (x : Float) (s : Bool) (M y : ℕ) → T (fits binary32 x) → IsFinite x s M y → T (le leastSquare (x *f x)) → T (le (x *f x) sixteen) → Ordinary x
-by-digits x s M y f d a b =
-    let q = square-is x s (M * 2 ^ y) (d .value) in
-    let over = root-over (M * 2 ^ y) (subst (λ (z : Float). T (le leastSquare z)) q a) in
-    let under = root-under (M * 2 ^ y) (subst (λ (z : Float). T (le z sixteen)) q b) in
+pub by-size : (x : Float) (s : Bool) (M y : ℕ) → T (fits binary32 x) → IsFinite x s M y → 2 ^ 102 ≤ M * 2 ^ y → T (le (x *f x) sixteen) → Ordinary x
+by-size x s M y f d over b =
+    let under = root-under (M * 2 ^ y) (subst (λ (z : Float). T (le z sixteen)) (square-is x s (M * 2 ^ y) (d .value)) b) in
     let l : 102 < 24 + y = pow-back 102 (24 + y) (lt-of-le-of-lt over (shl-lt 24 y (d .few))) in
     let full : 0x80_0000 ≤ M = leading (d .leading) (omega arith) in
     let h : 23 + y < 152 = pow-back (23 + y) 152 (lt-of-le-of-lt (le-trans (le-of-eq (pow-add 2 23 y)) (mul-le-mul-right (2 ^ y) full)) under) in
@@ -68,7 +66,9 @@ by-digits x s M y f d a b =
     leading (inr h) p = h
 
 pub ordinary-size : (x : Float) → T (fits binary32 x) → T (le leastSquare (x *f x)) → T (le (x *f x) sixteen) → Ordinary x
-ordinary-size (fin s m e) f a b = by-digits (fin s m e) s _ _ f (is-finite (fin s m e) s _ _ f refl) a b
+ordinary-size (fin s m e) f a b =
+    let d = is-finite (fin s m e) s _ _ f refl in
+    by-size (fin s m e) s _ _ f d (root-over _ (subst (λ (z : Float). T (le leastSquare z)) (square-is (fin s m e) s _ (d .value)) a)) b
 ordinary-size nan f a b = unfold ofBits mul le lt eq in absurd a
 ordinary-size (inf true) f a b = unfold ofBits mul le lt eq in absurd b
 ordinary-size (inf false) f a b = unfold ofBits mul le lt eq in absurd b

@@ -29,10 +29,12 @@ fn is_ordinary(x: f32) -> bool
     ((1e-28 <= t) | (x == 0.0)) & (t <= 16.0)
 }
 
+// With its offset no luma is small: it is a zero, or 2^-25 at least.
 pub(crate) fn is_ready(cb: f32, y: f32, cr: f32) -> bool
     ensures { λ r. ⌜ (r ≡ true → Ready (vec cb y cr)) ⌝ }
 {
-    is_ordinary(cb) & is_ordinary(y + 128.0 / 255.0) & is_ordinary(cr)
+    let raised = y + 128.0 / 255.0;
+    is_ordinary(cb) & (raised * raised <= 16.0) & is_ordinary(cr)
 }
 
 // R, G, B, and whether they are sure.

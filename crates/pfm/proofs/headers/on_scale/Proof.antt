@@ -1,6 +1,5 @@
 -- `on_scale` takes a digit of the scale, or the white space behind it.
 -- By its tests.
-use borrow.Author.Tests.{eq-eqb, ne-eqb}
 use borrow.Author.Needs.{needs}
 use Rattle.pfm.proofs.headers.on_scale.Statement.{statement}
 use Rattle.pfm.proofs.headers.on_scale.Tie as tie

@@ -1,6 +1,5 @@
 -- `size_by` says what a byte makes of a number that is read digit by digit.
 -- By its tests, in their order.
-use native.Mathlib.Omega.{arith}
 use borrow.Author.Tests.{le-ltb, lt-ltb}
 use borrow.Author.Needs.{needs}
 use Rattle.pfm.proofs.headers.size_by.Statement.{statement}

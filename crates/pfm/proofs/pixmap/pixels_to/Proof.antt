@@ -1,11 +1,10 @@
 -- `pixels_to` puts three channels of bytes one behind the other, where the lengths fit.
 -- By the promise of `put_pixels`; the channels are equally long.
-use mathlib.Core.Path.{_≡_, sym, _∙_}
+use mathlib.Core.Path.{sym, _∙_}
 use borrow.Author.Needs.{needs}
 use borrow.Author.Tests.{not-false, not-true}
 use lib.Dec.{lit≤}
-use lib.ListN.{length}
-use Rattle.pfm.proofs.Fitting.{Fit, fitting}
+use Rattle.pfm.proofs.Fitting.{fitting}
 use Rattle.pfm.proofs.pixmap.pixels_to.Statement.{statement}
 use Rattle.pfm.proofs.pixmap.pixels_to.Tie as tie
 

@@ -1,7 +1,7 @@
 -- `put_pixels` puts three bytes for each pixel.
 -- The loop argument is `Laying`'s, for rows of bytes.
 use Prim.Native.Nat.{_-_, _<_, _≤_}
-use mathlib.Core.Path.{_≡_, refl}
+use mathlib.Core.Path.{refl}
 use native.Mathlib.Omega.{arith}
 use borrow.Author.Needs.{needs}
 use lib.ListN.{drop, length}

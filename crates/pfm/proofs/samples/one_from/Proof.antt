@@ -1,6 +1,6 @@
 -- `one_from` takes one channel from bytes, where the lengths fit, and leaves zeros in the two others.
 -- By the promises of its calls; the channels are equally long.
-use mathlib.Core.Path.{_≡_, refl, sym, _∙_}
+use mathlib.Core.Path.{sym, _∙_}
 use borrow.Author.Needs.{needs}
 use borrow.Author.Tests.{not-false, not-true}
 use lib.Dec.{lit≤}

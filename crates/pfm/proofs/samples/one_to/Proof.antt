@@ -1,6 +1,6 @@
 -- `one_to` puts one channel into bytes, where the lengths fit.
 -- By the promise of `put_samples`.
-use mathlib.Core.Path.{_≡_, sym, _∙_}
+use mathlib.Core.Path.{sym, _∙_}
 use borrow.Author.Needs.{needs}
 use borrow.Author.Tests.{eqb-true, not-false, not-true}
 use lib.Dec.{lit≤}

@@ -1,7 +1,6 @@
 -- `put_samples` puts the bytes of each sample.
 -- The loop argument is `Laying`'s.
 use Prim.Native.Nat.{_-_, _<_, _≤_}
-use mathlib.Core.Path.{_≡_}
 use native.Mathlib.Omega.{arith}
 use lib.Ieee.{Float, binary32, nan, toBits}
 use lib.ListN.{drop, length}

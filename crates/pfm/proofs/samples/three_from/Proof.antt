@@ -1,6 +1,6 @@
 -- `three_from` takes three channels from bytes, where the lengths fit.
 -- Each channel by its place in a pixel; the channels are equally long.
-use mathlib.Core.Path.{_≡_, refl, sym, _∙_}
+use mathlib.Core.Path.{sym, _∙_}
 use borrow.Author.Needs.{needs}
 use borrow.Author.Tests.{not-false, not-true}
 use lib.Dec.{lit≤}

@@ -1,7 +1,7 @@
 -- `zeros` leaves zeros.
 -- The loop argument is `Rewriting`'s.
 use Prim.Native.Nat.{_-_, _<_}
-use mathlib.Core.Path.{_≡_, sym}
+use mathlib.Core.Path.{sym}
 use native.Mathlib.Omega.{arith}
 use lib.Ieee.{nan}
 use lib.ListN.{getD-replicate, length, length-replicate, replicate}

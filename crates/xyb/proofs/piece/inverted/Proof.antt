@@ -1,12 +1,11 @@
 -- `inverted` makes of a piece what `mixedBy` makes of each triple.
 -- Taking the roots off and cubing what is left are the inversion in two steps (`Composed`).
-use mathlib.Core.Path.{_≡_, ap, _∙_}
+use mathlib.Core.Path.{ap, _∙_}
 use mathlib.Core.List.{map}
 use borrow.Author.Needs.{needs}
-use Rattle.channels.specs.Channels.{Channels, channels, each, triples}
+use Rattle.channels.specs.Channels.{Channels, channels, triples}
 use Rattle.channels.proofs.Holds.{both-hold}
-use Rattle.xyb.specs.Xyb.{mixedBy}
-use Rattle.xyb.specs.Steps.{cubed, shifted}
+use Rattle.xyb.specs.Steps.{cubed}
 use Rattle.xyb.proofs.Composed.{l-composed, m-composed, s-composed}
 use Rattle.xyb.proofs.piece.inverted.Statement.{statement}
 use Rattle.xyb.proofs.piece.inverted.Tie as tie

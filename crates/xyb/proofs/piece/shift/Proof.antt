@@ -2,7 +2,7 @@
 -- The loop argument is `InStep`'s for the squares and `Rewriting`'s for what was squared; the test holds for every place that was passed.
 use Prim.Native.Nat.{_-_, _<_}
 use mathlib.Core.Path.{_≡_, ap, refl, subst, sym, _∙_}
-use mathlib.Core.Bool.{_&&_, true}
+use mathlib.Core.Bool.{true}
 use mathlib.Core.List.{map}
 use native.Mathlib.Omega.{arith}
 use lib.ListN.{getD, length}
