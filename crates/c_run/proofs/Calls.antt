@@ -9,7 +9,8 @@ use Rattle.block.specs.Block.{readOf}
 use Rattle.block.specs.declared.Block.{Block}
 use Rattle.run.specs.Report.{reportedOf}
 use Rattle.run.specs.declared.Ran.{Ran}
-use Rattle.c_run.specs.BlockRun.{answerBy, answerOf, toldBy, toldOf}
+use Rattle.c_told.specs.Told.{toldBy}
+use Rattle.c_run.specs.BlockRun.{answerBy, answerOf, toldOf}
 
 module _ (bytes : List ℕ) (s : Channels) {b : Block} {r : Ran} {a : Answer} (read : b ≡ readOf bytes) (ran : r ≡ reportedOf (b .plan) s)
     (answer : a ≡ answerBy (b .answer) (r .outcome)) where

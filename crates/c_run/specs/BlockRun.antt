@@ -1,9 +1,10 @@
 -- A plan block read and its list run at once, on three lent channels: what is answered, told and left. Definitions only.
 use Prim.Native.Nat.{ℕ}
-use mathlib.Core.List.{List, [], _∷_}
+use mathlib.Core.List.{List}
 use lib.Dec.{eqb}
 use Rattle.notation.specs.Choice.{if_then_else_}
 use Rattle.notation.specs.declared.Answer.{Answer}
+use Rattle.c_told.specs.Told.{toldBy}
 use Rattle.channels.specs.Channels.{Channels}
 use Rattle.block.specs.Block as Block
 use Rattle.block.specs.Block.{readOf}
@@ -22,10 +23,7 @@ answerBy reading outcome = if eqb (Block.paper reading .number) 0 then Run.paper
 abbrev pub answerOf : List ℕ → Channels → Answer
 answerOf bytes s = answerBy (readOf bytes .answer) (outcomeOf (readOf bytes .plan) s)
 
--- what is told: number, position, width, and how many samples went bad
-abbrev pub toldBy : Answer → ℕ → List ℕ
-toldBy a bad = a .number ∷ a .position ∷ a .width ∷ bad ∷ []
-
+-- what is told
 abbrev pub toldOf : List ℕ → Channels → List ℕ
 toldOf bytes s = toldBy (answerOf bytes s) (reportedOf (readOf bytes .plan) s .bad)
 

@@ -1,7 +1,7 @@
 // The list of a plan block, run on three channels, as a C function.
 ghost use mathlib.Core.Path.{_≡_};
 ghost use Rattle.channels.specs.Channels.{channels};
-ghost use Rattle.c_run.specs.BlockRun.{answerBy, answerOf, leftOf, toldBy, toldOf};
+ghost use Rattle.c_run.specs.BlockRun.{answerBy, answerOf, leftOf, toldOf};
 use block::Reading;
 use notation::Answer;
 use run::Outcome;
@@ -15,17 +15,6 @@ fn answer_by(reading: Reading, outcome: Outcome) -> Answer
         return run::paper(outcome);
     }
     read
-}
-
-fn tell(told: &mut [u64; 4], answer: Answer, bad: u64)
-    ensures { λ _. ⌜ now (told .exit) ≡ toldBy answer bad ⌝ }
-{
-    *told = [
-        answer.number as u64,
-        answer.position as u64,
-        answer.width as u64,
-        bad,
-    ];
 }
 
 // 0, or the number of the refusal; told are the number, the position, the width, and how many samples went bad.
@@ -47,6 +36,6 @@ pub extern "C" fn rindsaddle_run(
     let ran = run::run(plan, a, b, c);
     let outcome = ran.outcome;
     let answer = answer_by(reading, outcome);
-    tell(told, answer, ran.bad);
+    c_told::tell(told, answer, ran.bad);
     answer.number
 }

@@ -12,7 +12,8 @@ use Rattle.strips.specs.declared.State.{State}
 use Rattle.strips.specs.declared.Stripped.{Stripped}
 use Rattle.block.specs.Block.{readOf}
 use Rattle.block.specs.declared.Block.{Block}
-use Rattle.c_strips.specs.BlockStrips.{stateOf, noRun, wordsOf, toldBy, opened, openBy, openAnswer, openWords, openTold, stripAnswer, stripWords, stripTold, closeAnswer, closeTold}
+use Rattle.c_told.specs.Told.{toldBy}
+use Rattle.c_strips.specs.BlockStrips.{stateOf, noRun, wordsOf, opened, openBy, openAnswer, openWords, openTold, stripAnswer, stripWords, stripTold, closeAnswer, closeTold}
 
 module _ (bytes : List ℕ) where
   -- an opening

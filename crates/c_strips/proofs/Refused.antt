@@ -17,7 +17,8 @@ use Rattle.block.specs.Block as Block
 use Rattle.block.specs.Block.{readOf}
 use Rattle.block.specs.declared.Reading.{Reading}
 use Rattle.block.specs.declared.Reading.the-variants as R
-use Rattle.c_strips.specs.BlockStrips.{stateOf, noRun, toldBy, opened, openBy, openAnswer, openWords, openTold, stripAnswer, stripWords, stripTold, stripLeft, closeAnswer, closeTold}
+use Rattle.c_told.specs.Told.{toldBy}
+use Rattle.c_strips.specs.BlockStrips.{stateOf, noRun, opened, openBy, openAnswer, openWords, openTold, stripAnswer, stripWords, stripTold, stripLeft, closeAnswer, closeTold}
 
 no-width : (r : Reading) (j : Judgement) → ¬ (openBy r j .number ≡ 0) → openBy r j .width ≡ 0
 no-width R.Done (Ready w) n = absurd (n refl)

@@ -6,6 +6,7 @@ use lib.Dec.{eqb}
 use lib.ListN.{getD}
 use Rattle.notation.specs.Choice.{if_then_else_}
 use Rattle.notation.specs.declared.Answer.{Answer}
+use Rattle.c_told.specs.Told.{toldBy}
 use Rattle.channels.specs.Channels.{Channels}
 use Rattle.list.specs.declared.Plan.{Plan}
 use Rattle.judge.specs.Judging as Judging
@@ -34,10 +35,6 @@ noRun = 0 ∷ 0 ∷ []
 -- the words that an accepted call leaves, by the sum in the state that it leaves; or those of a refused one
 abbrev pub wordsOf : ℕ → ℕ → List ℕ → List ℕ
 wordsOf number sum refused = if eqb number 0 then 1 ∷ sum ∷ [] else refused
-
--- what is told: number, position, width, and how many samples went bad
-abbrev pub toldBy : Answer → ℕ → List ℕ
-toldBy a bad = a .number ∷ a .position ∷ a .width ∷ bad ∷ []
 
 -- opening: "the reader's refusal (7, 8, 9, 10), else what opening answers (10, 5, 6, or 0)"; what was open is not looked at
 abbrev pub opened : List ℕ → Opened

@@ -2,7 +2,7 @@
 ghost use mathlib.Core.Path.{_≡_};
 ghost use Rattle.channels.specs.Channels.{channels};
 ghost use Rattle.block.specs.Block.{readOf};
-ghost use Rattle.c_strips.specs.BlockStrips.{stateBy, noRun, wordsOf, toldBy, openBy, openAnswer, openWords, openTold, stripAnswer, stripWords, stripTold, stripLeft, closeAnswer, closeTold};
+ghost use Rattle.c_strips.specs.BlockStrips.{stateBy, noRun, wordsOf, openBy, openAnswer, openWords, openTold, stripAnswer, stripWords, stripTold, stripLeft, closeAnswer, closeTold};
 use block::Reading;
 use judge::Judgement;
 use notation::Answer;
@@ -28,17 +28,6 @@ fn words_of(number: u8, sum: u64, refused: [u64; 2]) -> [u64; 2]
         return refused;
     }
     [1, sum]
-}
-
-fn tell(told: &mut [u64; 4], answer: Answer, bad: u64)
-    ensures { λ _. ⌜ now (told .exit) ≡ toldBy answer bad ⌝ }
-{
-    *told = [
-        answer.number as u64,
-        answer.position as u64,
-        answer.width as u64,
-        bad,
-    ];
 }
 
 // The reader's refusal comes before the opening's.
@@ -67,7 +56,7 @@ pub extern "C" fn rindsaddle_open(bytes: &[u8], state: &mut [u64; 2], told: &mut
     let run = opened.state;
     let answer = open_by(reading, judgement);
     *state = words_of(answer.number, run.bad, [0, 0]);
-    tell(told, answer, 0);
+    c_told::tell(told, answer, 0);
     answer.number
 }
 
@@ -93,7 +82,7 @@ pub extern "C" fn rindsaddle_strip(
     let after = stripped.state;
     let answer = strips::paper(stripping);
     *state = words_of(answer.number, after.bad, words);
-    tell(told, answer, stripped.bad);
+    c_told::tell(told, answer, stripped.bad);
     answer.number
 }
 
@@ -109,6 +98,6 @@ pub extern "C" fn rindsaddle_close(bytes: &[u8], state: &mut [u64; 2], told: &mu
     let stripping = closed.answer;
     let answer = strips::paper(stripping);
     *state = [0, 0];
-    tell(told, answer, closed.bad);
+    c_told::tell(told, answer, closed.bad);
     answer.number
 }

@@ -1,0 +1,2 @@
+-- Theorem: Determined.
+pub mod Determined
