@@ -13,7 +13,7 @@ use lib.Ieee.Exact.{HasValue}
 use lib.Ieee.Scale.{finite}
 use Rattle.binary32.proofs.Apart.{IsFinite, is-finite}
 use Rattle.rounding.specs.Steps.{Clear, Narrows}
-use Rattle.rounding.proofs.ByPattern.{Settled, settled-apart, settled-sum}
+use Rattle.rounding.proofs.ByPattern.{Settled, settled-sum}
 use Rattle.rounding.proofs.Exact.{fine}
 use Rattle.rounding.proofs.Midpoint.{careful-sum}
 use Rattle.rounding.proofs.Single.{rescale}
@@ -60,10 +60,6 @@ module _ (a b c : Float) (s t u : Bool) (m n o i j k : ℕ)
       both (Settled w (suc d)) (subst (λ (x : ℕ). Settled w (suc d) (sum binary64 (unlike s t) x u (o * 2 ^ (k + 149)) (2 ^ 298)) (sum binary32 (unlike s t) x u (o * 2 ^ (k + 149)) (2 ^ 298))) A
       (subst (λ (x : ℕ). Settled w (suc d) (sum binary64 (unlike s t) (m * n * 2 ^ (i + j - w) * 2 ^ w) u x (2 ^ 298)) (sum binary32 (unlike s t) (m * n * 2 ^ (i + j - w) * 2 ^ w) u x (2 ^ 298))) B
       (settled-sum (m * n * 2 ^ (i + j - w)) (o * 2 ^ (k + 149 - w)) w d lo hi (lt-of-le-of-lt (le-of-eq A) al) (lt-of-le-of-lt (le-of-eq B) bl) (unlike s t) u)))
-
-  -- or where the addend is larger than the product by so much
-  pub apart-fused : (w d : ℕ) → 172 ≤ w → d ≤ 424 → m * n * 2 ^ (i + j) + 2 ^ w ≤ o * 2 ^ (k + 149) → o * 2 ^ (k + 149) < 2 ^ d → Settled w (suc d) (add binary64 (mul binary64 a b) c) (fused a b c)
-  apart-fused w d lo hi far bl = both (Settled w (suc d)) (settled-apart (m * n * 2 ^ (i + j)) (o * 2 ^ (k + 149)) w d lo hi far bl (unlike s t) u)
 
 -- ---- any three f32, where the sum at f64 is clear
 by-parts : (a b c : Float) (s t u : Bool) (m n o i j k : ℕ) → IsFinite a s m i → IsFinite b t n j → IsFinite c u o k

@@ -22,7 +22,7 @@ use Rattle.rounding.proofs.Cut.{not-nan-of}
 use Rattle.rounding.proofs.Midpoint.{N-ge, N-le, again, has, second}
 use Rattle.rounding.proofs.Placed.{pow-back}
 use Rattle.rounding.proofs.Single.{bits-at, rescale}
-use Rattle.rounding.proofs.Sums.{far-apart, multiple-of, one-rounding, zero-or-more}
+use Rattle.rounding.proofs.Sums.{multiple-of, one-rounding, zero-or-more}
 
 -- the test of a tie
 pub surely : (x : Float) → sure (toBits binary64 x) ≡ true → Sure x
@@ -165,10 +165,3 @@ settled-sum X Y w b lo hi xl yl s t =
     let m = multiple-of X Y w r in
     rw (r .is binary64, r .is binary32, m .is)
     (settled (r .sign) (m .E * 2 ^ w) w (suc b) lo (omega arith) (zero-or-more (m .E) w) (lt-of-le-of-lt (le-trans (mul-le-mul-right (2 ^ w) (m .under)) (le-of-eq (add-mul X Y (2 ^ w)))) (add-lt-pow b xl yl)))
-
--- ---- a sum whose second part is larger than the first by 2 ^ w
-pub settled-apart : (A B w b : ℕ) → 172 ≤ w → b ≤ 424 → A + 2 ^ w ≤ B → B < 2 ^ b → (s t : Bool) → Settled w (suc b) (sum binary64 s A t B (2 ^ 298)) (sum binary32 s A t B (2 ^ 298))
-settled-apart A B w b lo hi far bl s t =
-    let r = one-rounding s A t B (2 ^ 298) in
-    let al : A < 2 ^ b = lt-of-le-of-lt (omega arith) bl in
-    rw (r .is binary64, r .is binary32) (settled (r .sign) (r .D) w (suc b) lo (omega arith) (far-apart A B w far r) (lt-of-le-of-lt (r .under) (add-lt-pow b al bl)))

@@ -4,8 +4,11 @@ pub mod Cut
 pub mod Midpoint
 pub mod ByPattern
 pub mod Determined
+-- on f32 alone: Lost (what a product loses by its rounding), by Differences (sums of whole numbers of a unit, and which are exact)
+pub mod Differences
+pub mod Lost
 -- laws: the nearest whole number, one rounding, sums, what is exact at f64, a number of 53 digits at each format, where the digits of an
--- f32 stand, and those of a square
+-- f32 stand, what a square says of them, and a sum of its parts
 pub mod Closest
 pub mod Rounding
 pub mod Sums
@@ -13,3 +16,4 @@ pub mod Exact
 pub mod Single
 pub mod Placed
 pub mod Squares
+pub mod Unsigned

@@ -61,3 +61,27 @@ sumOf a b c = add binary64 (mul binary64 a b) c
 
 abbrev pub byF64 : Float → Float → Float → Float
 byF64 a b c = rounded (sumOf a b c)
+
+-- the first twelve digits of an f32, by its pattern, and the others
+unfoldable pub upper : Float → Float
+upper x = ofBits binary32 (toBits binary32 x / 0x1000 * 0x1000)
+
+abbrev pub lower : Float → Float
+lower x = sub binary32 x (upper x)
+
+-- both patterns are those of numbers: so taking them apart is defined
+pub record Parted (x : Float) : Type 0 where
+  pub real : T (not (isNan x))
+  pub still : T (not (nanBits binary32 (toBits binary32 x / 0x1000 * 0x1000)))
+
+-- what a product loses by its rounding, from the products of the parts
+abbrev pub lost : Float → Float → Float → Float
+lost a b p =
+    add binary32 (add binary32 (add binary32 (sub binary32 (mul binary32 (upper a) (upper b)) p) (mul binary32 (upper a) (lower b))) (mul binary32 (lower a) (upper b))) (mul binary32 (lower a) (lower b))
+
+-- a * b + c at f32, with what the product and the sum lost put back
+abbrev pub restored : Float → Float → Float → Float → Float
+restored c p s l = add binary32 s (add binary32 (sub binary32 c (sub binary32 s p)) l)
+
+unfoldable pub byParts : Float → Float → Float → Float
+byParts a b c = restored c (mul binary32 a b) (add binary32 (mul binary32 a b) c) (lost a b (mul binary32 a b))

@@ -1,137 +1,124 @@
--- Where the square of g is 16 at most and the bias of a size from 2 ^ -15 to 2 ^ -6, g * g * g + bias is a zero or in the range of f32's normal numbers.
--- Either both end at 2 ^ -126 or above, and so does their sum; or the product is below 2 ^ -78, and the bias far above it (`settled-fused`, `apart-fused`).
-use mathlib.Core.Path.{_≡_, ap, refl, sym, subst, _∙_}
+-- Where g is from 1/8 to 4, and the bias negative and of a size from 2 ^ -15 to 2 ^ -8, g * g * g + bias may be worked out by parts.
+-- The last digit of the product weighs from 2 ^ -55 to 2 ^ -40, and that of the bias from 2 ^ -38 to 2 ^ -32: from 4 to 2 ^ 23 of these (`by-parts-fused`).
+use mathlib.Core.Path.{_≡_, ap, refl, subst, _∙_}
 use mathlib.Core.Logic.{inl, inr}
-use mathlib.Core.Bool.{Bool, _&&_, false, not, true}
+use mathlib.Core.Bool.{false, not, true}
 use Prim.Native.Nat.{ℕ, _+_, _-_, _*_, _^_, _≤_, _<_}
-use native.Mathlib.Nat.{le-of-eq, le-of-lt, le-of-mul-le-mul-right, le-refl, le-trans, lt-of-le-of-lt, lt-of-lt-of-le, mul-assoc, mul-le-mul, mul-le-mul-right, mul-mul-mul-comm, mul-one}
+use native.Mathlib.Nat.{le-antisymm, le-of-lt, le-of-mul-le-mul-right, lt-of-lt-of-le}
 use native.Mathlib.Omega.{arith}
-use lib.Dec.{T, lit≤}
-use lib.Pow.{add-lt-pow, pow-add, pow-lt, pow-mono, pow-pos, shl-lt}
-use lib.Ieee.{Float, binary32, binary64, eq, fin, fits, inf, isNan, le, lt, mul, nan, neg, ofBits}
+use lib.Dec.{T, lit<, lit≤}
+use lib.Pow.{pow-pos}
+use lib.Ieee.{Float, binary32, fin, fits, inf, le, mul, nan, neg, ofBits, round}
 use lib.Ieee.Exact.{HasValue}
-use lib.Ieee.Fits.{and-i, fits-widens, mul-fits, neg-fits}
-use Rattle.notation.specs.F32.{bits}
-use Rattle.binary32.proofs.Apart.{IsFinite, is-finite}
+use lib.Ieee.Fits.{add-fits, mul-fits, neg-fits}
+use lib.Ieee.Positive.{above, above-of-le, between, mul-mono, positive}
+use Rattle.notation.specs.F32.{_+f_, bits}
 use Rattle.binary32.proofs.Size.{split-le}
-use Rattle.rounding.specs.Steps.{sumOf}
-use Rattle.rounding.proofs.ByPattern.{Settled}
-use Rattle.rounding.proofs.Cut.{not-nan-of}
-use Rattle.rounding.proofs.Placed.{place}
-use Rattle.rounding.proofs.Squares.{Small, root-under, small-square, square-is}
+use Rattle.rounding.specs.Steps.{Parted, byParts}
+use Rattle.rounding.proofs.Lost.{by-products, parted}
+use Rattle.rounding.proofs.Placed.{Placed, place}
+use Rattle.rounding.proofs.Unsigned.{parts-under, sum-unsigned, unsigned}
 use Rattle.fused.specs.Fused.{fused}
-use Rattle.fused.proofs.Product.{product-lt}
-use Rattle.fused.proofs.Twice.{apart-fused, settled-fused}
-use Rattle.xyb.specs.Steps.{Bias, Within, most, squared}
+use Rattle.fused.proofs.ByParts.{by-parts-fused}
+use Rattle.xyb.specs.Steps.{Bias, Within, least, most, squared}
 
 -- ---- the bias
 abbrev pub leastBias : Float
 leastBias = bits 0x3800_0000
 
 abbrev pub mostBias : Float
-mostBias = bits 0x3c80_0000
+mostBias = bits 0x3b80_0000
 
 least-bias : HasValue leastBias false (2 ^ 134) (2 ^ 149)
 unfolding ofBits
 least-bias = (refl, refl)
 
-most-bias : HasValue mostBias false (2 ^ 143) (2 ^ 149)
+most-bias : HasValue mostBias false (2 ^ 141) (2 ^ 149)
 unfolding ofBits
 most-bias = (refl, refl)
 
-pub bias-positive : (c : Float) → T (fits binary32 c) → T (le leastBias c) → T (le c mostBias) → Bias c
-bias-positive c f a b =
-    let p = place leastBias c mostBias 134 143 (lit≤ tt) least-bias most-bias f a b in
-    let l : 111 ≤ p .y = omega (arith, p .from) in
-    let e : p .M * 2 ^ p .y ≡ p .M * 2 ^ (p .y - 111) * 2 ^ 111 = ap (λ (z : ℕ). p .M * z) (ap (λ (z : ℕ). 2 ^ z) (back (p .y) l) ∙ pow-add 2 (p .y - 111) 111) ∙ sym (mul-assoc (p .M) (2 ^ (p .y - 111)) (2 ^ 111)) in
-    record {
-      single = f;
-      sign = false;
-      K = p .M * 2 ^ (p .y - 111);
-      value = subst (λ (n : ℕ). HasValue c false n (2 ^ 149)) e (p .value);
-      large = le-trans (p .full) (le-trans (le-of-eq (sym (mul-one (p .M)))) (mul-le-mul (le-refl (p .M)) (pow-pos (p .y - 111))));
-      small = le-of-mul-le-mul-right (le-trans (le-of-eq (sym e)) (p .under)) (pow-pos 111);
-    }
-  where
-    back : (y : ℕ) → 111 ≤ y → y ≡ y - 111 + 111
-    back y h = omega arith
-
-un-neg : (c : Float) (s : Bool) (a : ℕ) → HasValue (neg c) s a (2 ^ 149) → HasValue c (not s) a (2 ^ 149)
+un-neg : (c : Float) (a : ℕ) → HasValue (neg c) false a (2 ^ 149) → HasValue c true a (2 ^ 149)
 unfolding neg
-un-neg nan s a h = h
-un-neg (inf t) s a h = h
-un-neg (fin true m e) s a h = (ap not (h .0), h .1)
-un-neg (fin false m e) s a h = (ap not (h .0), h .1)
+un-neg nan a h = h
+un-neg (inf t) a h = h
+un-neg (fin true m e) a h = (refl, h .1)
+un-neg (fin false m e) a h = (ap not (h .0), h .1)
 
-pub bias-negative : (c : Float) → T (fits binary32 c) → T (le leastBias (neg c)) → T (le (neg c) mostBias) → Bias c
-bias-negative c f a b =
-    let p = bias-positive (neg c) (neg-fits binary32 c f) a b in
-    record { single = f; sign = not (p .sign); K = p .K; value = un-neg c (p .sign) (p .K * 2 ^ 111) (p .value); large = p .large; small = p .small }
+pub bias-is : (c : Float) → T (fits binary32 c) → T (le leastBias (neg c)) → T (le (neg c) mostBias) → Bias c
+bias-is c f a b = by (place leastBias (neg c) mostBias 134 141 (lit≤ tt) least-bias most-bias (neg-fits binary32 c f) a b)
+  where
+    by : Placed (neg c) 134 141 → Bias c
+    by p = elim (split-le (p .y) 117) [
+      | inl h ↦ record { O = p .M; k = p .y; value = un-neg c (p .M * 2 ^ p .y) (p .value); some = lt-of-lt-of-le (lit< tt) (p .full); few = le-of-lt (p .few); from = omega (arith, p .from); to = h }
+      | inr h ↦
+          let y : p .y ≡ 118 = omega (arith, p .to) in
+          let m : p .M ≤ 0x80_0000 = le-of-mul-le-mul-right (subst (λ (n : ℕ). p .M * 2 ^ n ≤ 2 ^ 141) y (p .under)) (pow-pos 118) in
+          let e : p .M * 2 ^ p .y ≡ 0x100_0000 * 2 ^ 117 = ap (λ (n : ℕ). p .M * 2 ^ n) y ∙ ap (λ (n : ℕ). n * 2 ^ 118) (le-antisymm m (p .full)) in
+          record { O = 0x100_0000; k = 117; value = un-neg c (0x100_0000 * 2 ^ 117) (subst (λ (n : ℕ). HasValue (neg c) false n (2 ^ 149)) e (p .value)); some = lit< tt; few = lit≤ tt; from = lit≤ tt; to = lit≤ tt }
+    ]
 
--- ---- at f64
-widens : (x : Float) (s : Bool) (a : ℕ) → T (fits binary32 x) → HasValue x s a (2 ^ 149) → T (fits binary64 x && not (isNan x))
-widens x s a f v = and-i (fits binary64 x) (not (isNan x)) (fits-widens x f) (not-nan-of x s a (2 ^ 149) v)
+-- ---- g, and its square
+least-has : HasValue least false (2 ^ 146) (2 ^ 149)
+unfolding ofBits
+least-has = (refl, refl)
 
-pub bias-widens : {c : Float} → Bias c → T (fits binary64 c && not (isNan c))
-bias-widens {c = c} k = widens c (k .sign) (k .K * 2 ^ 111) (k .single) (k .value)
+most-has : HasValue most false (2 ^ 151) (2 ^ 149)
+unfolding ofBits
+most-has = (refl, refl)
 
--- ---- the sum
-module _ (g c : Float) (s : Bool) (M y : ℕ) (d : IsFinite g s M y) (b : T (le (squared g) most)) (k : Bias c) where
-  abbrev W : ℕ
-  W = M * 2 ^ y
+least-squared : HasValue (squared least) false (2 ^ 143) (2 ^ 149)
+unfolding ofBits mul round
+least-squared = (refl, refl)
 
-  root : W < 2 ^ 152
-  root = root-under W (subst (λ (z : Float). T (le z most)) (square-is g s W (d .value)) b)
+most-squared : HasValue (squared most) false (2 ^ 153) (2 ^ 149)
+unfolding ofBits mul round
+most-squared = (refl, refl)
 
-  h : Small (squared g)
-  h = small-square g s W (d .value) b
+least-positive : T (positive least)
+unfolding ofBits
+least-positive = tt
 
-  product : h .M * M < 0x1_0000_0000_0000
-  product = product-lt (h .M) M (h .few) (d .few)
+most-positive : T (positive most)
+unfolding ofBits
+most-positive = tt
 
-  places : h .y + y ≤ 1200
-  places = omega (arith, h .bounded, d .bounded)
-
-  bias-under : k .K * 2 ^ 260 < 2 ^ 424
-  bias-under = lt-of-le-of-lt (mul-le-mul-right (2 ^ 260) (k .small)) (pow-lt {i = 292} {j = 424} (lit≤ tt))
-
-  -- the product ends at 2 ^ -126 or above
-  high : 172 ≤ h .y + y → Settled 172 425 (sumOf (squared g) g c) (fused (squared g) g c)
-  high l =
-      let a : h .M * M * 2 ^ (h .y + y) ≤ 2 ^ 305 =
-      le-trans (le-of-eq (ap (λ (z : ℕ). h .M * M * z) (pow-add 2 (h .y) y) ∙ sym (mul-mul-mul-comm (h .M) (2 ^ h .y) M (2 ^ y)))) (le-trans (mul-le-mul (h .under) (le-of-lt root)) (le-of-eq (sym (pow-add 2 153 152)))) in
-      settled-fused (squared g) g c false s (k .sign) (h .M) M (k .K) (h .y) y 111 (h .value) (d .value) (k .value) product places
-      172 424 (lit≤ tt) (lit≤ tt) l (lit≤ tt) (lt-of-le-of-lt a (pow-lt {i = 305} {j = 424} (lit≤ tt))) bias-under
-
-  -- or is too small to take the bias away
-  low : h .y + y < 172 → Settled 172 425 (sumOf (squared g) g c) (fused (squared g) g c)
-  low l =
-      let a : h .M * M * 2 ^ (h .y + y) < 2 ^ 220 = lt-of-lt-of-le (shl-lt 48 (h .y + y) product) (pow-mono (up (h .y + y) l)) in
-      let r : 2 ^ 283 ≤ k .K * 2 ^ 260 = mul-le-mul-right (2 ^ 260) (k .large) in
-      apart-fused (squared g) g c false s (k .sign) (h .M) M (k .K) (h .y) y 111 (h .value) (d .value) (k .value) product places
-      172 424 (lit≤ tt) (lit≤ tt) (le-trans (le-of-lt (add-lt-pow 220 a (pow-lt {i = 172} {j = 220} (lit≤ tt)))) (le-trans (pow-mono {i = 221} {j = 283} (lit≤ tt)) r)) bias-under
-    where
-      up : (w : ℕ) → w < 172 → 48 + w ≤ 220
-      up w l = omega arith
-
-  either : Settled 172 425 (sumOf (squared g) g c) (fused (squared g) g c)
-  either = elim (split-le 172 (h .y + y)) [ inl l ↦ high l | inr l ↦ low l ]
-
--- what one sample of the quick way asks: h is the square of g
+-- ---- what one sample of the quick way asks, h being the square of g
 pub record Ready (h g c : Float) : Type 0 where
-  pub square : T (fits binary64 h && not (isNan h))
-  pub root : T (fits binary64 g && not (isNan g))
-  pub sum : Settled 172 425 (sumOf h g c) (fused (squared g) g c)
+  pub square : Parted h
+  pub root : Parted g
+  pub sum : byParts h g c ≡ fused h g c
 
 pub windowed : (g c : Float) → Within g → Bias c → Ready (squared g) g c
-windowed nan c w k = unfold ofBits mul le lt eq in absurd (w .to)
-windowed (inf true) c w k = unfold ofBits mul le lt eq in absurd (w .to)
-windowed (inf false) c w k = unfold ofBits mul le lt eq in absurd (w .to)
-windowed (fin s m e) c w k =
-    let g = fin s m e in
-    let d = is-finite g s _ _ (w .single) refl in
+windowed g c w k =
+    let pg = between least g most least-positive most-positive (w .from) (w .to) in
+    let a = place least g most 146 151 (lit≤ tt) least-has most-has (w .single) (w .from) (w .to) in
+    let h = place (squared least) (squared g) (squared most) 143 153 (lit≤ tt) least-squared most-squared (mul-fits binary32 g g)
+    (mul-mono binary32 least g least g least-positive pg least-positive pg (w .from) (w .from)) (mul-mono binary32 g most g most pg most-positive pg most-positive (w .to) (w .to)) in
+    let gl : a .y ≤ 200 = omega (arith, a .to) in
+    let hl : h .y ≤ 200 = omega (arith, h .to) in
+    let lo : 173 ≤ h .y + a .y = omega (arith, h .from, a .from) in
+    let hi : h .y + a .y ≤ 330 = omega arith in
     record {
-      square = let h = small-square g s _ (d .value) (w .to) in widens (squared g) false _ (mul-fits binary32 g g) (h .value);
-      root = widens g s _ (w .single) (d .value);
-      sum = either g c s _ _ d (w .to) k;
+      square = parted (squared g) (h .M) (h .y) (h .value) (h .full) (h .few) hl;
+      root = parted g (a .M) (a .y) (a .value) (a .full) (a .few) gl;
+      sum = by-parts-fused (squared g) g c (h .M) (a .M) (k .O) (h .y) (a .y) (k .k) (k .k + 149 - (h .y + a .y)) (h .value) (a .value) (k .value)
+          (by-products (squared g) g (h .M) (a .M) (h .y) (a .y) (h .value) (a .value) (h .full) (h .few) (a .full) (a .few) hl gl lo hi)
+          (k .some) (k .few) lo hi (omega (arith, k .from, h .to, a .to)) (omega (arith, k .to, h .from, a .from));
     }
+
+-- ---- the test
+above-unsigned : (x : Float) → T (above x) → T (unsigned x)
+above-unsigned nan h = absurd h
+above-unsigned (inf s) h = h
+above-unsigned (fin true m e) h = absurd h
+above-unsigned (fin false m e) h = tt
+
+-- where each is 1/8 at least, and their sum 4 at most
+pub all-within : (l m s : Float) → T (fits binary32 l) → T (fits binary32 m) → T (fits binary32 s) → T (le least l) → T (le least m) → T (le least s) → T (le (l +f m +f s) most) → Within l × Within m × Within s
+all-within l m s f g h a b c t =
+    let ul = above-unsigned l (above-of-le least l least-positive a) in
+    let um = above-unsigned m (above-of-le least m least-positive b) in
+    let us = above-unsigned s (above-of-le least s least-positive c) in
+    let p = parts-under most most-positive (l +f m) s (add-fits binary32 l m) h (sum-unsigned l m ul um) us t in
+    let q = parts-under most most-positive l m f g ul um (p .0) in
+    (record { single = f; from = a; to = q .0 }, record { single = g; from = b; to = q .1 }, record { single = h; from = c; to = p .1 })

@@ -1,5 +1,6 @@
 // The inversion of XYB, after src/xyb.rs: X, Y, B samples become mixed L, M, S.
 mod cube;
+mod losses;
 mod piece;
 mod window;
 

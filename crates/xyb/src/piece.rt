@@ -1,20 +1,20 @@
 // A piece of three channels, tested once, so that the loops over its samples have no branch.
 ghost use mathlib.Core.Path.{_≡_};
-ghost use mathlib.Core.List.{map};
 ghost use mathlib.Core.Bool.{true};
 ghost use lib.ListN.{length};
 ghost use Rattle.channels.specs.Channels.{EquallyLong, channels, each};
 ghost use Rattle.xyb.specs.Xyb.{mixedBy};
-ghost use Rattle.xyb.specs.Steps.{AllWithin, Biases, shifted, squared};
+ghost use Rattle.xyb.specs.Steps.{AllWithin, Biases, shifted};
 use crate::cube;
+use crate::window;
 use ciexyz::Vec3;
 
-// l, m and s less the roots, in p, q and r; their squares in place of x, y and b; and whether every square is 16 at most.
+// l, m and s less the roots, in p, q and r; and whether every one of them is in the window.
 fn shift(
     roots: Vec3,
-    x: &mut [f32],
-    y: &mut [f32],
-    b: &mut [f32],
+    x: &[f32],
+    y: &[f32],
+    b: &[f32],
     p: &mut [f32],
     q: &mut [f32],
     r: &mut [f32],
@@ -22,7 +22,6 @@ fn shift(
     requires { ⌜ EquallyLong (channels (now x) (now y) (now b)) ⌝ }
     requires { ⌜ (length (now p) ≡ length (now x)) × (length (now q) ≡ length (now x)) × (length (now r) ≡ length (now x)) ⌝ }
     ensures { λ _. ⌜ channels (now (p .exit)) (now (q .exit)) (now (r .exit)) ≡ each (shifted roots) (channels (now (x .entry)) (now (y .entry)) (now (b .entry))) ⌝ }
-    ensures { λ _. ⌜ (now (x .exit) ≡ map squared (now (p .exit))) × (now (y .exit) ≡ map squared (now (q .exit))) × (now (b .exit) ≡ map squared (now (r .exit))) ⌝ }
     ensures { λ w. ⌜ (w ≡ true → AllWithin (now (p .exit)) × AllWithin (now (q .exit)) × AllWithin (now (r .exit))) ⌝ }
 {
     let n = x.len();
@@ -31,17 +30,13 @@ fn shift(
     while i < n {
         let u = x[i];
         let v = y[i];
-        let w = b[i];
         let l = v + u - roots.v0;
         let m = v - u - roots.v1;
-        let s = w - roots.v2;
+        let s = b[i] - roots.v2;
         p[i] = l;
         q[i] = m;
         r[i] = s;
-        x[i] = l * l;
-        y[i] = m * m;
-        b[i] = s * s;
-        within = within & (l * l <= 16.0) & (m * m <= 16.0) & (s * s <= 16.0);
+        within = within & window::are_within(l, m, s);
         i += 1;
     }
     within

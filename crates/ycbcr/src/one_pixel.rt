@@ -1,13 +1,14 @@
-// One pixel, Cb, Y, Cr in and R, G, B out: by fused products and sums, or by f64.
+// One pixel, Cb, Y, Cr in and R, G, B out: by f64 where that is sure, and else by fused products and sums.
 ghost use mathlib.Core.Path.{_≡_};
 ghost use mathlib.Core.Bool.{true};
 ghost use Rattle.channels.specs.Channels.{vec};
 ghost use Rattle.ycbcr.specs.Ycbcr.{rgbBy};
-ghost use Rattle.ycbcr.specs.Steps.{Factors, Ordinary, Ready, quickBy};
+ghost use Rattle.ycbcr.specs.Steps.{Factors, Ready, quickBy};
 use crate::Constants;
 use ciexyz::Vec3;
 
-pub(crate) fn rgb(k: Constants, cbycr: Vec3) -> Vec3
+// For every pixel, but slowly.
+fn fused_rgb(k: Constants, cbycr: Vec3) -> Vec3
     ensures { λ r. ⌜ r ≡ rgbBy k cbycr ⌝ }
 {
     let cb = cbycr.v0;
@@ -21,20 +22,15 @@ pub(crate) fn rgb(k: Constants, cbycr: Vec3) -> Vec3
     }
 }
 
-// Whether x is a zero, or of a size from 1e-14 to 4: then no sum is too small or too large for f32.
-fn is_ordinary(x: f32) -> bool
-    ensures { λ r. ⌜ (r ≡ true → Ordinary x) ⌝ }
-{
-    let t = x * x;
-    ((1e-28 <= t) | (x == 0.0)) & (t <= 16.0)
-}
-
+// Whether f64 may be tried: each chroma is a zero or 1e-14 at least, and no sample above 4, so that no sum is too small or too large for f32.
 // With its offset no luma is small: it is a zero, or 2^-25 at least.
 pub(crate) fn is_ready(cb: f32, y: f32, cr: f32) -> bool
     ensures { λ r. ⌜ (r ≡ true → Ready (vec cb y cr)) ⌝ }
 {
+    let t = cb * cb;
     let raised = y + 128.0 / 255.0;
-    is_ordinary(cb) & (raised * raised <= 16.0) & is_ordinary(cr)
+    let u = cr * cr;
+    ((1e-28 <= t) | (cb == 0.0)) & ((1e-28 <= u) | (cr == 0.0)) & (t + raised * raised + u <= 16.0)
 }
 
 // R, G, B, and whether they are sure.
@@ -66,4 +62,22 @@ pub(crate) fn by_f64(k: Constants, cbycr: Vec3) -> Worked
         blue: f64::from_bits(blue.pattern) as f32,
         sure: red.sure & with_cr.sure & green.sure & blue.sure,
     }
+}
+
+// A pixel that f64 is not sure of costs itself alone.
+pub(crate) fn rgb(k: Constants, cbycr: Vec3) -> Vec3
+    requires { ⌜ Factors k ⌝ }
+    ensures { λ r. ⌜ r ≡ rgbBy k cbycr ⌝ }
+{
+    if is_ready(cbycr.v0, cbycr.v1, cbycr.v2) {
+        let out = by_f64(k, cbycr);
+        if out.sure {
+            return Vec3 {
+                v0: out.red,
+                v1: out.green,
+                v2: out.blue,
+            };
+        }
+    }
+    fused_rgb(k, cbycr)
 }

@@ -1,6 +1,7 @@
-// A piece of three channels: by f64, in loops without a branch, where that is sure for every pixel, and else by fused products and sums.
+// A piece of three channels: block by block by f64, in loops without a branch, and pixel by pixel where that is not sure or may not be tried.
 ghost use mathlib.Core.Path.{_≡_};
 ghost use mathlib.Core.Bool.{true};
+ghost use Prim.Native.Nat.{min};
 ghost use lib.ListN.{length};
 ghost use Rattle.channels.specs.Channels.{EquallyLong, channels, each};
 ghost use Rattle.ycbcr.specs.Ycbcr.{rgbBy};
@@ -58,8 +59,8 @@ fn each_by_f64(k: Constants, cb: &mut [f32], y: &mut [f32], cr: &mut [f32]) -> b
     sure
 }
 
-// From the piece that was kept.
-fn each_fused(
+// Pixel by pixel, from what was kept.
+fn each_alone(
     k: Constants,
     p: &[f32],
     q: &[f32],
@@ -68,6 +69,7 @@ fn each_fused(
     y: &mut [f32],
     cr: &mut [f32],
 )
+    requires { ⌜ Factors k ⌝ }
     requires { ⌜ EquallyLong (channels (now p) (now q) (now r)) ⌝ }
     requires { ⌜ (length (now cb) ≡ length (now p)) × (length (now y) ≡ length (now p)) × (length (now cr) ≡ length (now p)) ⌝ }
     ensures { λ _. ⌜ channels (now (cb .exit)) (now (y .exit)) (now (cr .exit)) ≡ each (rgbBy k) (channels (now (p .entry)) (now (q .entry)) (now (r .entry))) ⌝ }
@@ -88,26 +90,65 @@ fn each_fused(
     }
 }
 
-// Whether it was done by f64. Where it was not, p, q and r have the piece.
-fn quickly(
+// In place by f64 where that is sure, and else from p, q and r, which have the block too.
+fn block(
     k: Constants,
+    p: &[f32],
+    q: &[f32],
+    r: &[f32],
     cb: &mut [f32],
     y: &mut [f32],
     cr: &mut [f32],
-    p: &mut [f32],
-    q: &mut [f32],
-    r: &mut [f32],
-) -> bool
+)
     requires { ⌜ Factors k ⌝ }
     requires { ⌜ EquallyLong (channels (now cb) (now y) (now cr)) ⌝ }
-    requires { ⌜ (length (now p) ≡ length (now cb)) × (length (now q) ≡ length (now cb)) × (length (now r) ≡ length (now cb)) ⌝ }
-    ensures { λ _. ⌜ channels (now (p .exit)) (now (q .exit)) (now (r .exit)) ≡ channels (now (cb .entry)) (now (y .entry)) (now (cr .entry)) ⌝ }
-    ensures { λ r. ⌜ (r ≡ true → channels (now (cb .exit)) (now (y .exit)) (now (cr .exit)) ≡ each (rgbBy k) (channels (now (cb .entry)) (now (y .entry)) (now (cr .entry)))) ⌝ }
+    requires { ⌜ AllReady (now cb) (now y) (now cr) ⌝ }
+    requires { ⌜ channels (now p) (now q) (now r) ≡ channels (now cb) (now y) (now cr) ⌝ }
+    ensures { λ _. ⌜ channels (now (cb .exit)) (now (y .exit)) (now (cr .exit)) ≡ each (rgbBy k) (channels (now (cb .entry)) (now (y .entry)) (now (cr .entry))) ⌝ }
 {
-    if keep(cb, y, cr, p, q, r) {
-        return each_by_f64(k, cb, y, cr);
+    if !each_by_f64(k, cb, y, cr) {
+        each_alone(k, p, q, r, cb, y, cr);
     }
-    false
+}
+
+// How many pixels the next block has, of those that are left: few, since a pixel that is not sure has them all done anew.
+fn next_block(left: usize) -> usize
+    ensures { λ r. ⌜ r ≡ min left 32 ⌝ }
+{
+    if left < 32 { left } else { 32 }
+}
+
+// Block by block, where f64 may be tried on every pixel; p, q and r have the piece too.
+fn by_blocks(
+    k: Constants,
+    p: &[f32],
+    q: &[f32],
+    r: &[f32],
+    cb: &mut [f32],
+    y: &mut [f32],
+    cr: &mut [f32],
+)
+    requires { ⌜ Factors k ⌝ }
+    requires { ⌜ EquallyLong (channels (now cb) (now y) (now cr)) ⌝ }
+    requires { ⌜ AllReady (now cb) (now y) (now cr) ⌝ }
+    requires { ⌜ channels (now p) (now q) (now r) ≡ channels (now cb) (now y) (now cr) ⌝ }
+    ensures { λ _. ⌜ channels (now (cb .exit)) (now (y .exit)) (now (cr .exit)) ≡ each (rgbBy k) (channels (now (cb .entry)) (now (y .entry)) (now (cr .entry))) ⌝ }
+{
+    let n = cb.len();
+    let mut j: usize = 0;
+    while j < n {
+        let e = j + next_block(n - j);
+        block(
+            k,
+            &p[j..e],
+            &q[j..e],
+            &r[j..e],
+            &mut cb[j..e],
+            &mut y[j..e],
+            &mut cr[j..e],
+        );
+        j = e;
+    }
 }
 
 // Cb, Y, Cr in; R, G, B out. p, q and r are room to keep the piece.
@@ -125,7 +166,9 @@ pub(crate) fn converted(
     requires { ⌜ (length (now p) ≡ length (now cb)) × (length (now q) ≡ length (now cb)) × (length (now r) ≡ length (now cb)) ⌝ }
     ensures { λ _. ⌜ channels (now (cb .exit)) (now (y .exit)) (now (cr .exit)) ≡ each (rgbBy k) (channels (now (cb .entry)) (now (y .entry)) (now (cr .entry))) ⌝ }
 {
-    if !quickly(k, cb, y, cr, p, q, r) {
-        each_fused(k, p, q, r, cb, y, cr);
+    if keep(cb, y, cr, p, q, r) {
+        by_blocks(k, p, q, r, cb, y, cr);
+    } else {
+        each_alone(k, p, q, r, cb, y, cr);
     }
 }

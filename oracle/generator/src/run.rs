@@ -68,28 +68,64 @@ fn fixed() -> Vec<Case> {
     let edges = samples.chain(xyb).chain(luma).chain(matrix);
     edges
         .chain(windows())
+        .chain(inside())
+        .chain(outside())
         .chain(ties())
         .chain(decided())
         .chain(small())
         .collect()
 }
 
-/// XYB where l, m and s less the roots, or the biases, lie at the ends of where f64 is tried: their squares at 0 and 16, the biases at 2^-15 and 2^-6.
-/// All samples are at one end but the last, which is an ordinary one.
+/// XYB where l, m and s less the roots, or the biases, lie at the ends of where f32 alone is tried: 1/8 and 4, the biases at -2^-15 and -2^-8; or at 0.
+/// Each end by itself, and behind it an ordinary sample.
 fn windows() -> Vec<Case> {
     let near = |x: f32| [-1, 0, 1].map(|by| f32::from_bits(x.to_bits().wrapping_add_signed(by)));
-    let biases = [power(-15), power(-6)].into_iter().flat_map(near);
+    let biases = [power(-15), power(-8)].into_iter().flat_map(near);
     let biases = biases
         .flat_map(|b| [b, -b])
         .chain([0.0, -0.0, -0.0037930733]);
     let mut cases = Vec::new();
     for bias in biases {
-        for end in [0.0, power(2)] {
-            let samples = near(end + exact(bias));
-            cases.push(alike(bias, &[&samples[..], &[0.5 + exact(bias)]].concat()));
+        for end in [0.0, power(-3), power(2)] {
+            for sample in near(end + exact(bias)) {
+                cases.push(alike(bias, &[sample, 0.5 + exact(bias)]));
+            }
         }
     }
     cases
+}
+
+/// XYB of samples all over that window, where l, m and s are 4 together at most, with biases from one end to the other, and black.
+fn inside() -> Vec<Case> {
+    let all: Vec<f32> = spread(0.13, 1.33, 300).collect();
+    let mut cases = vec![alike(-0.0037930733, &[0.0, 0.5])];
+    for bias in [-power(-15), -0.0001, -0.0037930733, -0.0009, -power(-8)] {
+        for some in all.chunks(60) {
+            let samples = some.iter().map(|g| g + exact(bias));
+            cases.push(alike(bias, &samples.collect::<Vec<f32>>()));
+        }
+    }
+    cases
+}
+
+/// XYB of samples below that window, negative, infinite and NaN ones among them, each case with an ordinary sample behind them.
+fn outside() -> Vec<Case> {
+    let bias = -0.0037930733;
+    let case = |all: &[f32]| {
+        let samples = all.iter().chain([&0.5]).map(|g| g + exact(bias));
+        alike(bias, &samples.collect::<Vec<f32>>())
+    };
+    let small: Vec<f32> = spread(power(-7), power(-3), 60).collect();
+    let negative: Vec<f32> = spread(power(-5), 1.0, 60).map(|g| -g).collect();
+    [&small[..], &negative, &[f32::INFINITY], &[f32::NAN]]
+        .map(case)
+        .into()
+}
+
+/// So many floats from one to below another, with digits of all kinds.
+fn spread(from: f32, to: f32, count: u32) -> impl Iterator<Item = f32> {
+    let (from, to) = (from.to_bits(), to.to_bits());
+    (0..count).map(move |k| f32::from_bits(from + (to - from) / count * k))
 }
 
 /// XYB of one bias, l, m and s being alike.

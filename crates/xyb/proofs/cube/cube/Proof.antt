@@ -1,21 +1,16 @@
--- `cube` makes `cubed` of each g, in place of its square.
--- Where `quickly` did not, the loop goes over the g, which are still there.
-use mathlib.Core.Path.{ap, _∙_}
-use native.Mathlib.Omega.{arith}
+-- `cube` makes `cubed` of each g.
+-- Either loop does; the one by parts is asked only where the bias and every g are in the window.
 use borrow.Author.Needs.{needs}
-use borrow.Author.Tests.{not-false}
-use lib.ListN.{length, length-map}
-use Rattle.xyb.specs.Steps.{squared}
 use Rattle.xyb.proofs.cube.cube.Statement.{statement}
 use Rattle.xyb.proofs.cube.cube.Tie as tie
 
-quickly-requires : tie.Need-quickly-requires
-quickly-requires c κs = search needs
+all-by-parts-requires : tie.Need-all-by-parts-requires
+all-by-parts-requires c κs =
+    let s = c .before .before .before .before in
+    (s .pre .0, s .pre .1 (c .before .if1 .taken))
 
 each-fused-requires : tie.Need-each-fused-requires
-each-fused-requires c κs =
-    let s = c .before .before .before .before .before .before .before .before in
-    omega (arith, ap length (s .pre .0) ∙ length-map (s .args .g .now) squared)
+each-fused-requires c κs = search needs
 
 same-length : tie.Need-same-length
 same-length c = search needs
@@ -27,7 +22,7 @@ same-length-2 : tie.Need-same-length-2
 same-length-2 c = search needs
 
 returns-2 : tie.Need-returns-2
-returns-2 c = c .before .before .before .quickly .ensures (not-false _ (c .if1 .left))
+returns-2 c = search needs
 
 pub cube-spec : {M : Type 1} → statement M
-cube-spec = tie.close (tie.spec quickly-requires each-fused-requires same-length returns same-length-2 returns-2)
+cube-spec = tie.close (tie.spec all-by-parts-requires each-fused-requires same-length returns same-length-2 returns-2)

@@ -6,7 +6,7 @@ use borrow.Author.Needs.{needs}
 use Rattle.channels.specs.Channels.{Channels, channels, triples}
 use Rattle.channels.proofs.Holds.{both-hold}
 use Rattle.xyb.specs.Steps.{cubed}
-use Rattle.xyb.proofs.Composed.{l-composed, m-composed, s-composed}
+use Rattle.xyb.proofs.Composed.{as-long, l-composed, m-composed, s-composed}
 use Rattle.xyb.proofs.piece.inverted.Statement.{statement}
 use Rattle.xyb.proofs.piece.inverted.Tie as tie
 
@@ -15,21 +15,24 @@ shift-requires c κs = search needs
 
 cube-requires : tie.Need-cube-requires
 cube-requires c κs =
-    let h = c .before .before .before .before .before .before .before .before .before .before .before .before .before .before in
+    let h = c .before .before .before .before .before .before .before .before in
     let s = h .before .before .before .before .before .before .before .before .before .before .before .before .before in
-    (h .shift .ensures .1 .0 .0, λ e. let t = both-hold _ _ e in (s .pre .0 (t .0) .0, h .shift .ensures .1 .1 (t .1) .0))
+    let a = s .args in
+    (as-long (a .roots) (a .x .now) (a .y .now) (a .b .now) _ (s .pre .1 .0) (h .shift .ensures .0) .0, λ z. let t = both-hold _ _ z in (s .pre .0 (t .0) .0, h .shift .ensures .1 (t .1) .0))
 
 cube-requires-2 : tie.Need-cube-requires-2
 cube-requires-2 c κs =
-    let h = c .before .before .before .before .before .before .before .before .before .before .before .before .before .before .before .before .before .before .before in
+    let h = c .before .before .before .before .before .before .before .before .before .before .before .before .before in
     let s = h .before .before .before .before .before .before .before .before .before .before .before .before .before in
-    (h .shift .ensures .1 .0 .1, λ e. let t = both-hold _ _ e in (s .pre .0 (t .0) .1, h .shift .ensures .1 .1 (t .1) .1))
+    let a = s .args in
+    (as-long (a .roots) (a .x .now) (a .y .now) (a .b .now) _ (s .pre .1 .0) (h .shift .ensures .0) .1, λ z. let t = both-hold _ _ z in (s .pre .0 (t .0) .1, h .shift .ensures .1 (t .1) .1))
 
 cube-requires-3 : tie.Need-cube-requires-3
 cube-requires-3 c κs =
-    let h = c .before .before .before .before .before .before .before .before .before .before .before .before .before .before .before .before .before .before .before .before .before .before .before .before in
+    let h = c .before .before .before .before .before .before .before .before .before .before .before .before .before .before .before .before .before .before in
     let s = h .before .before .before .before .before .before .before .before .before .before .before .before .before in
-    (h .shift .ensures .1 .0 .2, λ e. let t = both-hold _ _ e in (s .pre .0 (t .0) .2, h .shift .ensures .1 .1 (t .1) .2))
+    let a = s .args in
+    (as-long (a .roots) (a .x .now) (a .y .now) (a .b .now) _ (s .pre .1 .0) (h .shift .ensures .0) .2, λ z. let t = both-hold _ _ z in (s .pre .0 (t .0) .2, h .shift .ensures .1 (t .1) .2))
 
 same-length : tie.Need-same-length
 same-length c = search needs
@@ -51,7 +54,7 @@ same-length-6 c = search needs
 
 returns : tie.Need-returns
 returns c =
-    let h = c .before .before .before .before .before .before .before .before .before .before .before .before .before .before .before .before .before .before .before .before .before .before .before .before .before .before .before in
+    let h = c .before .before .before .before .before .before .before .before .before .before .before .before .before .before .before .before .before .before .before .before .before in
     let a = h .before .before .before .before .before .before .before .before .before .before .before .before .before .args in
     let e = h .shift .ensures .0 in
     let ts = triples (a .x .now) (a .y .now) (a .b .now) in

@@ -1,25 +1,24 @@
 -- `rgb` is `rgbBy`.
--- Each of the three is fused, by `mul_add`'s contract.
+-- Where the pixel is ready and sure, `by_f64` says so; else by `fused_rgb`'s contract.
+use mathlib.Core.Path.{_∙_}
 use borrow.Author.Needs.{needs}
-use Rattle.ycbcr.specs.Ycbcr.{raised, rgbBy}
 use Rattle.ycbcr.proofs.one_pixel.rgb.Statement.{statement}
 use Rattle.ycbcr.proofs.one_pixel.rgb.Tie as tie
 
-mul-add-requires : tie.Need-mul-add-requires
-mul-add-requires c κs = search needs
+is-ready-requires : tie.Need-is-ready-requires
+is-ready-requires c κs = search needs
 
-mul-add-requires-2 : tie.Need-mul-add-requires-2
-mul-add-requires-2 c κs = search needs
-
-mul-add-requires-3 : tie.Need-mul-add-requires-3
-mul-add-requires-3 c κs = search needs
-
-mul-add-requires-4 : tie.Need-mul-add-requires-4
-mul-add-requires-4 c κs = search needs
+by-f64-requires : tie.Need-by-f64-requires
+by-f64-requires c κs = (c .before .before .pre, c .before .is-ready .ensures (c .if1 .taken))
 
 returns : tie.Need-returns
-unfolding rgbBy raised
-returns c = cc
+returns c = c .before .by-f64 .ensures .0 ∙ c .before .by-f64 .ensures .1 (c .if2 .taken)
+
+fused-rgb-requires : tie.Need-fused-rgb-requires
+fused-rgb-requires c κs = search needs
+
+returns-2 : tie.Need-returns-2
+returns-2 c = search needs
 
 pub rgb-spec : {M : Type 1} → statement M
-rgb-spec = tie.close (tie.spec mul-add-requires mul-add-requires-2 mul-add-requires-3 mul-add-requires-4 returns)
+rgb-spec = tie.close (tie.spec is-ready-requires by-f64-requires returns fused-rgb-requires returns-2)

@@ -1,18 +1,23 @@
 -- `converted` makes of a piece what `rgbBy` makes of each triple.
--- Where `quickly` did not, the loop goes over the piece that it kept.
+-- The test of `keep` gives what the blocks require; where it fails, the loop goes over the piece that was kept.
 use mathlib.Core.Path.{ap, _∙_}
 use borrow.Author.Needs.{needs}
-use borrow.Author.Tests.{not-false}
 use Rattle.channels.specs.Channels.{each}
 use Rattle.ycbcr.specs.Ycbcr.{rgbBy}
 use Rattle.ycbcr.proofs.piece.converted.Statement.{statement}
 use Rattle.ycbcr.proofs.piece.converted.Tie as tie
 
-quickly-requires : tie.Need-quickly-requires
-quickly-requires c κs = search needs
+keep-requires : tie.Need-keep-requires
+keep-requires c κs = search needs
 
-each-fused-requires : tie.Need-each-fused-requires
-each-fused-requires c κs = search needs
+by-blocks-requires : tie.Need-by-blocks-requires
+by-blocks-requires c κs =
+    let z = c .before .before .before .before .before .before .before .before .before .before .before .before .before .before .before .before .before .before .before .before .before .before .before .before .before .before .pre in
+    let k = c .before .before .before .before .before .before .before .before .before .before .before .before .before .keep .ensures in
+    (z .0, (z .1 .0, (k .1 (c .before .before .before .before .before .before .if1 .taken), k .0)))
+
+each-alone-requires : tie.Need-each-alone-requires
+each-alone-requires c κs = (c .before .before .before .before .before .before .before .before .before .before .before .before .before .before .before .before .before .before .before .before .before .before .before .before .before .before .pre .0, search needs)
 
 same-length : tie.Need-same-length
 same-length c = search needs
@@ -33,7 +38,7 @@ same-length-6 : tie.Need-same-length-6
 same-length-6 c = search needs
 
 returns : tie.Need-returns
-returns c = c .before .before .before .before .before .before .each-fused .ensures ∙ ap (each (rgbBy (c .before .before .before .before .before .before .before .before .before .before .before .before .before .before .before .before .before .before .before .before .before .before .before .before .before .before .before .before .before .before .before .before .before .before .before .before .before .before .before .args .k))) (c .before .before .before .before .before .before .before .before .before .before .before .before .before .before .before .before .before .before .before .before .before .before .before .before .before .before .quickly .ensures .0)
+returns c = c .before .before .before .before .before .before .by-blocks .ensures
 
 same-length-7 : tie.Need-same-length-7
 same-length-7 c = search needs
@@ -54,14 +59,15 @@ same-length-12 : tie.Need-same-length-12
 same-length-12 c = search needs
 
 returns-2 : tie.Need-returns-2
-returns-2 c = c .before .before .before .before .before .before .before .before .before .before .before .before .before .quickly .ensures .1 (not-false _ (c .if1 .left))
+returns-2 c = c .before .before .before .before .before .before .each-alone .ensures ∙ ap (each (rgbBy (c .before .before .before .before .before .before .before .before .before .before .before .before .before .before .before .before .before .before .before .before .before .before .before .before .before .before .before .before .before .before .before .before .before .args .k))) (c .before .before .before .before .before .before .before .before .before .before .before .before .before .before .before .before .before .before .before .before .keep .ensures .0)
 
 pub converted-spec : {M : Type 1} → statement M
 converted-spec =
     tie.close
     (tie.spec
-    quickly-requires
-    each-fused-requires
+    keep-requires
+    by-blocks-requires
+    each-alone-requires
     same-length
     same-length-2
     same-length-3

@@ -1,4 +1,4 @@
--- `each_fused` converts each triple that was kept.
+-- `each_alone` converts each triple that was kept.
 -- The loop argument is `Across`'s, for the function `rgbBy k`.
 use Prim.Native.Nat.{_-_}
 use mathlib.Core.Path.{_≡_, refl}
@@ -9,8 +9,8 @@ use lib.Ieee.{nan}
 use Rattle.channels.proofs.Across.{Across, across-begun, across-ended, across-step}
 use Rattle.channels.proofs.InStep.{samples}
 use Rattle.ycbcr.specs.Ycbcr.{rgbBy}
-use Rattle.ycbcr.proofs.piece.each_fused.Statement.{statement}
-use Rattle.ycbcr.proofs.piece.each_fused.Tie as tie
+use Rattle.ycbcr.proofs.piece.each_alone.Statement.{statement}
+use Rattle.ycbcr.proofs.piece.each_alone.Tie as tie
 
 abbrev Inv-loop : tie.InvT-loop
 Inv-loop k p q r cb₀ y₀ cr₀ n i₀ cb y cr i = (n ≡ length p) × Across samples (rgbBy k) p q r cb₀ y₀ cr₀ i cb y cr
@@ -21,8 +21,8 @@ abbrev μ-loop : tie.MeasureT-loop
 loop-holds : tie.Need-loop-holds Inv-loop μ-loop
 loop-holds c =
     let z = c .before .before .before .before .before .before in
-    let e = z .pre .0 in
-    let l = z .pre .1 in
+    let e = z .pre .1 .0 in
+    let l = z .pre .1 .1 in
     (refl, across-begun samples (rgbBy (z .args .k)) _ _ _ _ _ _ (record { as-y = e .0; as-z = e .1; as-r = l .0; as-g = l .1; as-b = l .2 }))
 
 mul-t13 : tie.Need-mul-t13 Inv-loop μ-loop
@@ -85,8 +85,8 @@ same-length-3 c = c .before .loop .inv .1 .on-b .long
 returns : tie.Need-returns Inv-loop μ-loop
 returns c = let e = across-ended (c .before .loop .inv .1) (omega arith) in rw (e .0, e .1, e .2)
 
-pub each-fused-spec : {M : Type 1} → statement M
-each-fused-spec =
+pub each-alone-spec : {M : Type 1} → statement M
+each-alone-spec =
     tie.close
     (tie.spec
     Inv-loop
