@@ -26,12 +26,19 @@ pub fn write(rng: &mut Rng, count: usize, out: &mut impl Write) {
     let mut fixed = fixed().into_iter();
     let mut roots = 0;
     for _ in 0..count {
-        let (case, record) = loop {
-            let case = fixed.next().unwrap_or_else(|| random(rng));
-            let record = record(&case);
-            if record.bytes() <= LONGEST {
-                break (case, record);
+        let (case, record) = match fixed.next() {
+            Some(case) => {
+                let record = record(&case);
+                assert!(record.bytes() <= LONGEST, "too long a case: {case:?}");
+                (case, record)
             }
+            None => loop {
+                let case = random(rng);
+                let record = record(&case);
+                if record.bytes() <= LONGEST {
+                    break (case, record);
+                }
+            },
         };
         roots += case.wrong_roots();
         record.write(out);
