@@ -14,13 +14,13 @@ use Rattle.channels.specs.Channels.{EquallyLong, channels, each, triples
 use Rattle.channels.proofs.InStep.{Stepped}
 
 -- ---- how far the next piece goes
-pub record NextPiece (j n m : ℕ) : Type 0 where
-  pub most : m ≤ 256
+pub record NextPiece (most j n m : ℕ) : Type 0 where
+  pub few : m ≤ most
   pub fits : j + m ≤ n
   pub falls : n - (j + m) < n - j
 
-pub next-piece : (j n m : ℕ) → j < n → m ≡ min (n - j) 256 → NextPiece j n m
-next-piece j n m h e = record { most = omega arith; fits = omega arith; falls = omega arith }
+pub next-piece : (most j n m : ℕ) → 0 < most → j < n → m ≡ min (n - j) most → NextPiece most j n m
+next-piece most j n m p h e = record { few = omega arith; fits = omega arith; falls = omega arith }
 
 -- the room beside it, cut to its length
 pub room : (h : List Float) (m : ℕ) → length h ≡ 256 → m ≤ 256 → length (take (m - 0) h) ≡ m

@@ -40,9 +40,9 @@ pub fn same_lengths(a: usize, b: usize, c: usize) -> bool
     false
 }
 
-// How many samples the next piece has, of those that are left: what stands beside it has room on the stack.
-pub fn next_piece(left: usize) -> usize
-    ensures { λ r. ⌜ r ≡ min left 256 ⌝ }
+// How many samples the next piece has, of those that are left.
+pub fn next_piece(left: usize, most: usize) -> usize
+    ensures { λ r. ⌜ r ≡ min left most ⌝ }
 {
-    if left < 256 { left } else { 256 }
+    if left < most { left } else { most }
 }

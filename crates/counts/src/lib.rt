@@ -41,7 +41,7 @@ fn bad_in(samples: &[f32]) -> u64
     let mut bad: u64 = 0;
     let mut j: usize = 0;
     while j < n {
-        let e = j + channels::next_piece(n - j);
+        let e = j + channels::next_piece(n - j, 256);
         bad += bad_in_piece(&samples[j..e]) as u64;
         j = e;
     }

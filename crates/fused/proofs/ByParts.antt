@@ -11,10 +11,10 @@ use lib.Ieee.{Float, add, binary32, mul, neg, round, sub, sum}
 use lib.Ieee.Exact.{HasValue}
 use Rattle.binary32.proofs.Size.{split-le}
 use Rattle.rounding.specs.Steps.{byParts}
-use Rattle.rounding.proofs.Differences.{Apart, Firm, Near, Once, Side, adds, also, close, either, exactly, minus, near, positive, same}
+use Rattle.rounding.proofs.Differences.{Apart, Firm, Near, Once, Proper, Side, adds, also, close, either, exactly, minus, near, positive, same}
 use Rattle.rounding.proofs.Lost.{Product}
 use Rattle.rounding.proofs.Placed.{pow-back}
-use Rattle.rounding.proofs.Single.{rescale}
+use Rattle.rounding.proofs.Single.{widened}
 use Rattle.rounding.proofs.Sums.{sub-mul}
 use Rattle.fused.specs.Fused.{fused}
 use Rattle.fused.proofs.Product.{by-digits}
@@ -28,6 +28,11 @@ between X Y v f g h = elim (split-le Y X) [
   where
     more : (X Y : ℕ) → Y ≤ X → X * v ≡ Y * v + (X - Y) * v
     more X Y l = omega (arith, sub-mul X Y v, mul-le-mul-right v l)
+
+-- as they stand in a sum
+padded : (F A B : ℕ) → Apart F A B → Apart F (A + 0) (0 + B)
+padded F A B (inl e) = inl (omega arith)
+padded F A B (inr e) = inr (omega arith)
 
 module _ (a b c : Float) (H G O i j k m : ℕ)
     (va : HasValue a false (H * 2 ^ i) (2 ^ 149)) (vb : HasValue b false (G * 2 ^ j) (2 ^ 149)) (vc : HasValue c true (O * 2 ^ k) (2 ^ 149)) (q : Product (i + j) a b (H * G))
@@ -52,8 +57,7 @@ module _ (a b c : Float) (H G O i j k m : ℕ)
   C-is = ap (λ (x : ℕ). O * x) (ap (λ (x : ℕ). 2 ^ x) at ∙ pow-add 2 m w) ∙ sym (mul-assoc O (2 ^ m) (2 ^ w))
 
   c-has : HasValue c true (C * 2 ^ w) (2 ^ 298)
-  c-has = rescale c true (O * 2 ^ k) (2 ^ 149) (C * 2 ^ w) (2 ^ 298) (pow-pos 149)
-      (ap (λ (x : ℕ). x * 2 ^ 149) (sym C-is ∙ ap (λ (x : ℕ). O * x) (pow-add 2 k 149) ∙ sym (mul-assoc O (2 ^ k) (2 ^ 149))) ∙ mul-assoc (O * 2 ^ k) (2 ^ 149) (2 ^ 149)) vc
+  c-has = subst (λ (x : ℕ). HasValue c true x (2 ^ 298)) C-is (widened c true O k vc)
 
   C-pos : 0 < C
   C-pos = mul-pos oa (pow-pos m)
@@ -94,13 +98,9 @@ module _ (a b c : Float) (H G O i j k m : ℕ)
       let e : P ≡ X * 2 ^ m = count m (omega (arith, q .from)) in
       let l : X < 2 * O = lt-of-mul-lt-mul-right (2 ^ m) (lt-of-le-of-lt (le-of-eq (sym e)) (lt-of-lt-of-le h (le-of-eq (sym (mul-assoc 2 O (2 ^ m)))))) in
       let d = between X O (2 ^ m) 0x100_0000 (λ g. omega arith) (λ g. omega arith) in
-      let f = exactly (d .0) m once (subst (λ (x : ℕ). Apart (d .0 * 2 ^ m) x (0 + C)) (omega (arith, e)) (shift (d .0 * 2 ^ m) (X * 2 ^ m) C (d .2))) (d .1) (omega arith) (omega arith) in
+      let f = exactly (d .0) m once (padded (d .0 * 2 ^ m) P C (subst (λ (x : ℕ). Apart (d .0 * 2 ^ m) x C) (sym e) (d .2))) (d .1) (omega arith) (omega arith) in
       let z = exactly O m (adds w s (neg p) f (minus (q .rounded .is))) (inr (omega arith)) (omega arith) (omega arith) (omega arith) in
       finish P C (also P C (omega arith) f) (also P (C + P) (omega arith) z) (omega arith) (omega arith)
-    where
-      shift : (F A B : ℕ) → Apart F A B → Apart F A (0 + B)
-      shift F A B (inl e) = inl (omega arith)
-      shift F A B (inr e) = inr (omega arith)
 
   -- ---- and else it is positive and larger than the addend
   size-lt : P ≤ 0x1_0000_0000_0000
@@ -118,15 +118,11 @@ module _ (a b c : Float) (H G O i j k m : ℕ)
       (λ g. up-to (X - r .Q) (lt-of-mul-lt-mul-right v (omega (arith, pow-pos (r .n), r .under, r .less, sub-mul X (r .Q) v)))) in
       let weight : v ≤ 0x100_0000 = pow-mono (r .place) in
       let f : Firm w s S 0 = record { is = record { sign = false; D = S; value = r .value; side = omega arith }; proper = positive S } in
-      let z = exactly (d .0) (r .n) (adds w s (neg p) f (minus (q .rounded .is))) (subst (λ (x : ℕ). Apart (d .0 * v) (S + 0) (0 + x)) (sym ex) (shift (d .0 * v) S (X * v) (d .2))) (d .1) (omega arith) (omega (arith, r .place)) in
+      let z = exactly (d .0) (r .n) (adds w s (neg p) f (minus (q .rounded .is))) (padded (d .0 * v) S P (subst (λ (x : ℕ). Apart (d .0 * v) S x) (sym ex) (d .2))) (d .1) (omega arith) (omega (arith, r .place)) in
       finish S 0 f (also S (0 + P) (omega arith) z) (omega (arith, r .less, weight)) (omega (arith, r .over, weight))
     where
       up-to : (F : ℕ) → F < 0x100_0001 → F ≤ 0x100_0000
       up-to F h = omega arith
-
-      shift : (F A B : ℕ) → Apart F A B → Apart F (A + 0) (0 + B)
-      shift F A B (inl e) = inl (omega arith)
-      shift F A B (inr e) = inr (omega arith)
 
       lower : (r .n ≡ 0) ⊎ (0x80_0000 * 2 ^ r .n ≤ D) → r .n ≤ q .n
       lower (inl z) = omega arith
@@ -138,7 +134,7 @@ module _ (a b c : Float) (H G O i j k m : ℕ)
   above : 2 * C ≤ P → byParts a b c ≡ fused a b c
   above h = by (once .sign) (once .D) (once .is) (once .side) (once .proper)
     where
-      by : (t : Bool) (D : ℕ) → s ≡ round binary32 t (D * 2 ^ w) (2 ^ 298) → Side t D (P + 0) (0 + C) → (t ≡ true → 0 < D) → byParts a b c ≡ fused a b c
+      by : (t : Bool) (D : ℕ) → s ≡ round binary32 t (D * 2 ^ w) (2 ^ 298) → Side t D (P + 0) (0 + C) → Proper t D → byParts a b c ≡ fused a b c
       by true D e x y = absurd (omega (arith, C-pos))
       by false D e x y = far-off D h (omega arith) (subst (λ (r : Float). Near w r false D) (sym e) (near w false D lo hi (omega (arith, size-lt, C-pos))))
 

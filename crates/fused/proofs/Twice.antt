@@ -16,7 +16,7 @@ use Rattle.rounding.specs.Steps.{Clear, Narrows}
 use Rattle.rounding.proofs.ByPattern.{Settled, settled-sum}
 use Rattle.rounding.proofs.Exact.{fine}
 use Rattle.rounding.proofs.Midpoint.{careful-sum}
-use Rattle.rounding.proofs.Single.{rescale}
+use Rattle.rounding.proofs.Single.{widened}
 use Rattle.rounding.proofs.Sums.{add-at, mul-val}
 use Rattle.fused.proofs.Product.{by-digits, product-lt}
 use Rattle.fused.specs.Fused.{fused}
@@ -36,14 +36,11 @@ module _ (a b c : Float) (s t u : Bool) (m n o i j k : ℕ)
       let A = m * n * 2 ^ (i + j) in
       let B = o * 2 ^ (k + 149) in
       let ea : m * 2 ^ i * (n * 2 ^ j) ≡ A = mul-mul-mul-comm m (2 ^ i) n (2 ^ j) ∙ ap (λ (x : ℕ). m * n * x) (sym (pow-add 2 i j)) in
-      let eb : o * 2 ^ k * 2 ^ 149 ≡ B = mul-assoc o (2 ^ k) (2 ^ 149) ∙ ap (λ (x : ℕ). o * x) (sym (pow-add 2 k 149)) in
       let product : HasValue (mul binary64 a b) (unlike s t) A (2 ^ 298) =
       subst (λ (v : Float). HasValue v (unlike s t) A (2 ^ 298))
       (sym (mul-val binary64 a b s t (m * 2 ^ i) (n * 2 ^ j) (2 ^ 149) (2 ^ 149) (pow-pos 149) (pow-pos 149) p q ∙ ap (λ (x : ℕ). round binary64 (unlike s t) x (2 ^ 298)) ea))
       (fine (unlike s t) (m * n) (i + j) (lt-of-lt-of-le l (lit≤ tt)) h) in
-      let addend : HasValue c u B (2 ^ 298) =
-      rescale c u (o * 2 ^ k) (2 ^ 149) B (2 ^ 298) (pow-pos 149) (ap (λ (x : ℕ). x * 2 ^ 149) (sym eb) ∙ mul-assoc (o * 2 ^ k) (2 ^ 149) (2 ^ 149)) r in
-      sym (add-at binary64 (mul binary64 a b) c (unlike s t) u A B (2 ^ 298) (pow-pos 298) product addend)
+      sym (add-at binary64 (mul binary64 a b) c (unlike s t) u A B (2 ^ 298) (pow-pos 298) product (widened c u o k r))
 
   -- what holds of the one sum at the two formats
   both : (P : Float → Float → Type 0) → P (sum binary64 (unlike s t) (m * n * 2 ^ (i + j)) u (o * 2 ^ (k + 149)) (2 ^ 298)) (sum binary32 (unlike s t) (m * n * 2 ^ (i + j)) u (o * 2 ^ (k + 149)) (2 ^ 298))

@@ -6,7 +6,7 @@ use mathlib.Core.Bool.{Bool, false, true}
 use Prim.Native.Nat.{_%_, _*_, _+_, _-_, _/_, _<_, _^_, ℕ, _≤_}
 use native.Mathlib.Nat.{add-mul, lt-of-lt-of-le, mul-add, mul-assoc, mul-le-mul, mul-mul-mul-comm, mul-right-comm, mul-one}
 use native.Mathlib.Omega.{arith}
-use lib.Pow.{pow-add, pow-mono, pow-pos, shl-lt}
+use lib.Pow.{pow-add, pow-mono, shl-lt}
 use lib.Ieee.{Float, add, binary32, mul, neg, ofBits, sub, toBits, units}
 use lib.Ieee.Exact.{HasValue, units-val}
 use Rattle.binary32.specs.Pattern.{signBit}
@@ -14,9 +14,9 @@ use Rattle.binary32.proofs.Pattern.{no-nan, pattern-at, together, with-sign-is}
 use Rattle.binary32.proofs.Size.{split-le}
 use Rattle.rounding.specs.Steps.{Parted, lost, lower, upper}
 use Rattle.rounding.proofs.Cut.{not-nan-of}
-use Rattle.rounding.proofs.Differences.{Firm, Near, Once, Side, adds, also, close, exactly, minus, near, positive, times, times-is}
+use Rattle.rounding.proofs.Differences.{Firm, Near, Once, Proper, Side, adds, also, close, exactly, minus, near, positive, times, times-is}
 use Rattle.rounding.proofs.Placed.{pow-back}
-use Rattle.rounding.proofs.Single.{rescale}
+use Rattle.rounding.proofs.Single.{narrowed, widened}
 
 -- ---- the parts
 module _ (x : Float) (M y : ℕ) (v : HasValue x false (M * 2 ^ y) (2 ^ 149)) (lo : 0x80_0000 ≤ M) (hi : M < 0x100_0000) (l : y ≤ 200) where
@@ -36,25 +36,17 @@ module _ (x : Float) (M y : ℕ) (v : HasValue x false (M * 2 ^ y) (2 ^ 149)) (l
   upper-has : HasValue (upper x) false (first * 2 ^ y) (2 ^ 149)
   upper-has = rw upper-is (units-val binary32 false first y (lt-of-lt-of-le (shl-lt 24 y (omega arith)) (pow-mono {i = 24 + y} {j = 277} (omega arith))))
 
-  -- of the unit of its last digit, over 2 ^ 298
-  wide : (z : Float) (n : ℕ) → HasValue z false (n * 2 ^ y) (2 ^ 149) → HasValue z false (n * 2 ^ (y + 149)) (2 ^ 298)
-  wide z n h = rescale z false (n * 2 ^ y) (2 ^ 149) (n * 2 ^ (y + 149)) (2 ^ 298) (pow-pos 149)
-      (ap (λ (u : ℕ). u * 2 ^ 149) (ap (λ (u : ℕ). n * u) (pow-add 2 y 149) ∙ sym (mul-assoc n (2 ^ y) (2 ^ 149))) ∙ mul-assoc (n * 2 ^ y) (2 ^ 149) (2 ^ 149)) h
-
-  narrow : (z : Float) (n : ℕ) → HasValue z false (n * 2 ^ (y + 149)) (2 ^ 298) → HasValue z false (n * 2 ^ y) (2 ^ 149)
-  narrow z n h = rescale z false (n * 2 ^ (y + 149)) (2 ^ 298) (n * 2 ^ y) (2 ^ 149) (pow-pos 298)
-      (sym (ap (λ (u : ℕ). u * 2 ^ 149) (ap (λ (u : ℕ). n * u) (pow-add 2 y 149) ∙ sym (mul-assoc n (2 ^ y) (2 ^ 149))) ∙ mul-assoc (n * 2 ^ y) (2 ^ 149) (2 ^ 149))) h
-
+  -- in units of its last digit, over 2 ^ 298
   firm : (z : Float) (n : ℕ) → HasValue z false (n * 2 ^ y) (2 ^ 149) → Firm (y + 149) z n 0
-  firm z n h = record { is = record { sign = false; D = n; value = wide z n h; side = omega arith }; proper = positive n }
+  firm z n h = record { is = record { sign = false; D = n; value = widened z false n y h; side = omega arith }; proper = positive n }
 
   lower-has : HasValue (lower x) false (M % 0x1000 * 2 ^ y) (2 ^ 149)
   unfolding sub
   lower-has =
       let f = exactly (M % 0x1000) 0 (adds (y + 149) x (neg (upper x)) (firm x M v) (minus (firm (upper x) first upper-has .is))) (inl (omega (arith, mul-one (M % 0x1000)))) (omega arith) (omega arith) (omega arith) in
-      narrow (lower x) (M % 0x1000) (upright (f .is .sign) (f .is .D) (f .is .value) (f .is .side) (f .proper))
+      narrowed (lower x) false (M % 0x1000) y (upright (f .is .sign) (f .is .D) (f .is .value) (f .is .side) (f .proper))
     where
-      upright : (s : Bool) (D : ℕ) → HasValue (lower x) s (D * 2 ^ (y + 149)) (2 ^ 298) → Side s D (M + 0) (0 + first) → (s ≡ true → 0 < D) → HasValue (lower x) false (M % 0x1000 * 2 ^ (y + 149)) (2 ^ 298)
+      upright : (s : Bool) (D : ℕ) → HasValue (lower x) s (D * 2 ^ (y + 149)) (2 ^ 298) → Side s D (M + 0) (0 + first) → Proper s D → HasValue (lower x) false (M % 0x1000 * 2 ^ (y + 149)) (2 ^ 298)
       upright false D h e p = subst (λ (n : ℕ). HasValue (lower x) false (n * 2 ^ (y + 149)) (2 ^ 298)) (omega arith) h
       upright true D h e p = let q = p refl in absurd (omega arith)
 

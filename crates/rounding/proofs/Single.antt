@@ -76,6 +76,16 @@ rescale (fin t m e) s w l num den p h v = (
       ∙ mul-right-comm num l (down e)),
 )
 
+-- n * 2 ^ k over 2 ^ 149 and over 2 ^ 298
+over : (n k : ℕ) → n * 2 ^ (k + 149) * 2 ^ 149 ≡ n * 2 ^ k * 2 ^ 298
+over n k = ap (λ (x : ℕ). x * 2 ^ 149) (ap (λ (x : ℕ). n * x) (pow-add 2 k 149) ∙ sym (mul-assoc n (2 ^ k) (2 ^ 149))) ∙ mul-assoc (n * 2 ^ k) (2 ^ 149) (2 ^ 149)
+
+pub widened : (x : Float) (s : Bool) (n k : ℕ) → HasValue x s (n * 2 ^ k) (2 ^ 149) → HasValue x s (n * 2 ^ (k + 149)) (2 ^ 298)
+widened x s n k = rescale x s (n * 2 ^ k) (2 ^ 149) (n * 2 ^ (k + 149)) (2 ^ 298) (pow-pos 149) (over n k)
+
+pub narrowed : (x : Float) (s : Bool) (n k : ℕ) → HasValue x s (n * 2 ^ (k + 149)) (2 ^ 298) → HasValue x s (n * 2 ^ k) (2 ^ 149)
+narrowed x s n k = rescale x s (n * 2 ^ (k + 149)) (2 ^ 298) (n * 2 ^ k) (2 ^ 149) (pow-pos 298) (sym (over n k))
+
 -- a product of powers of two, by the sum of their exponents
 two-pows : (a i j b : ℕ) → a + i ≡ j + b → 2 ^ a * 2 ^ i ≡ 2 ^ j * 2 ^ b
 two-pows a i j b e = sym (pow-add 2 a i) ∙ ap (λ (x : ℕ). 2 ^ x) e ∙ pow-add 2 j b

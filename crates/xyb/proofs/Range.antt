@@ -82,13 +82,13 @@ most-positive : T (positive most)
 unfolding ofBits
 most-positive = tt
 
--- ---- what one sample of the quick way asks, h being the square of g
-pub record Ready (h g c : Float) : Type 0 where
-  pub square : Parted h
+-- ---- what one sample of the quick way asks
+pub record Ready (g c : Float) : Type 0 where
+  pub square : Parted (squared g)
   pub root : Parted g
-  pub sum : byParts h g c ≡ fused h g c
+  pub sum : byParts (squared g) g c ≡ fused (squared g) g c
 
-pub windowed : (g c : Float) → Within g → Bias c → Ready (squared g) g c
+pub windowed : (g c : Float) → Within g → Bias c → Ready g c
 windowed g c w k =
     let pg = between least g most least-positive most-positive (w .from) (w .to) in
     let a = place least g most 146 151 (lit≤ tt) least-has most-has (w .single) (w .from) (w .to) in

@@ -35,7 +35,7 @@ fn inverted(roots: Vec3, bias: Vec3, scale: f32, x: &mut [f32], y: &mut [f32], b
     let n = x.len();
     let mut j: usize = 0;
     while j < n {
-        let m = channels::next_piece(n - j);
+        let m = channels::next_piece(n - j, 256);
         let e = j + m;
         piece::inverted(
             roots,

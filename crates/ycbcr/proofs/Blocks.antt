@@ -1,6 +1,6 @@
 -- A block of a piece that is converted block by block is ready where the piece was, and is what was kept of it.
 -- The block that comes next is still the piece's own (`Pieces`), place by place.
-use Prim.Native.Nat.{ℕ, _+_, _-_, _<_, _≤_, min}
+use Prim.Native.Nat.{ℕ, _+_, _-_, _<_, _≤_}
 use mathlib.Core.Path.{_≡_, ap, subst, sym, _∙_}
 use mathlib.Core.List.{List}
 use native.Mathlib.Omega.{arith}
@@ -11,12 +11,8 @@ use Rattle.notation.proofs.Rewriting.{Rewritten}
 use Rattle.ciexyz.specs.declared.Vec3.{Vec3}
 use Rattle.channels.specs.Channels.{Channels, channels, vec}
 use Rattle.channels.proofs.InStep.{Stepped}
-use Rattle.channels.proofs.Pieces.{NextPiece, length-piece, piece-of}
+use Rattle.channels.proofs.Pieces.{length-piece, piece-of}
 use Rattle.ycbcr.specs.Steps.{AllReady, Ready}
-
--- how far the next block goes
-pub next-block : (j n m : ℕ) → j < n → m ≡ min (n - j) 32 → NextPiece j n m
-next-block j n m h e = record { most = omega arith; fits = omega arith; falls = omega arith }
 
 module _ {R x s : List Float} {j : ℕ} (r : Rewritten R x j s) (m : ℕ) (h : j + m ≤ length x) where
   same-block : take (j + m - j) (drop j x) ≡ take (j + m - j) (drop j s)

@@ -59,7 +59,7 @@ fn rgb_each(k: Constants, cb: &mut [f32], y: &mut [f32], cr: &mut [f32])
     let n = cb.len();
     let mut j: usize = 0;
     while j < n {
-        let m = channels::next_piece(n - j);
+        let m = channels::next_piece(n - j, 256);
         let e = j + m;
         piece::converted(
             k,

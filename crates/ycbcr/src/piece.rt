@@ -1,7 +1,6 @@
 // A piece of three channels: block by block by f64, in loops without a branch, and pixel by pixel where that is not sure or may not be tried.
 ghost use mathlib.Core.Path.{_≡_};
 ghost use mathlib.Core.Bool.{true};
-ghost use Prim.Native.Nat.{min};
 ghost use lib.ListN.{length};
 ghost use Rattle.channels.specs.Channels.{EquallyLong, channels, each};
 ghost use Rattle.ycbcr.specs.Ycbcr.{rgbBy};
@@ -111,14 +110,7 @@ fn block(
     }
 }
 
-// How many pixels the next block has, of those that are left: few, since a pixel that is not sure has them all done anew.
-fn next_block(left: usize) -> usize
-    ensures { λ r. ⌜ r ≡ min left 32 ⌝ }
-{
-    if left < 32 { left } else { 32 }
-}
-
-// Block by block, where f64 may be tried on every pixel; p, q and r have the piece too.
+// Block by block, where f64 may be tried on every pixel; p, q and r have the piece too. A block has few pixels, since one that is not sure has them all done anew.
 fn by_blocks(
     k: Constants,
     p: &[f32],
@@ -137,7 +129,7 @@ fn by_blocks(
     let n = cb.len();
     let mut j: usize = 0;
     while j < n {
-        let e = j + next_block(n - j);
+        let e = j + channels::next_piece(n - j, 32);
         block(
             k,
             &p[j..e],

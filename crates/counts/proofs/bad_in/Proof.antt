@@ -4,6 +4,7 @@ use Prim.Native.Nat.{_+_, _-_}
 use mathlib.Core.Path.{_≡_, refl}
 use native.Mathlib.Omega.{arith}
 use borrow.Author.Needs.{needs}
+use lib.Dec.{lit<}
 use lib.ListN.{drop, length, length-take}
 use Rattle.channels.proofs.Pieces.{next-piece}
 use Rattle.counts.proofs.Counting.{Counted, ended, more-by}
@@ -44,8 +45,8 @@ bad-in-piece-requires : tie.Need-bad-in-piece-requires Inv-loop μ-loop
 bad-in-piece-requires c κs =
     let l = c .before .before .before in
     let n = c .before .next-piece in
-    let g = next-piece (l .loop .j) _ (n .result) (c .before .before .loop-test .taken) (n .ensures) in
-    let most = g .most in
+    let g = next-piece 256 (l .loop .j) _ (n .result) (lit< tt) (c .before .before .loop-test .taken) (n .ensures) in
+    let most = g .few in
     omega (arith, most, length-take (l .loop .j + n .result - l .loop .j) (drop (l .loop .j) (l .before .before .args .samples .now)))
 
 cast-bad : tie.Need-cast-bad Inv-loop μ-loop
@@ -55,20 +56,20 @@ add-bad : tie.Need-add-bad Inv-loop μ-loop
 add-bad c =
     let l = c .before .before .before .before in
     let n = c .before .before .next-piece in
-    let fits = next-piece (l .loop .j) _ (n .result) (c .before .before .before .loop-test .taken) (n .ensures) .fits in
+    let fits = next-piece 256 (l .loop .j) _ (n .result) (lit< tt) (c .before .before .before .loop-test .taken) (n .ensures) .fits in
     let few = more-by (l .loop .inv .1) (n .result) fits _ (c .bad-in-piece .ensures) .few in
     omega (arith, few, fits)
 
 loop-less : tie.Need-loop-less Inv-loop μ-loop
 loop-less c =
     let n = c .before .before .next-piece in
-    next-piece (c .before .before .before .before .loop .j) _ (n .result) (c .before .before .before .loop-test .taken) (n .ensures) .falls
+    next-piece 256 (c .before .before .before .before .loop .j) _ (n .result) (lit< tt) (c .before .before .before .loop-test .taken) (n .ensures) .falls
 
 loop-again : tie.Need-loop-again Inv-loop μ-loop
 loop-again c =
     let l = c .before .before .before .before in
     let n = c .before .before .next-piece in
-    let fits = next-piece (l .loop .j) _ (n .result) (c .before .before .before .loop-test .taken) (n .ensures) .fits in
+    let fits = next-piece 256 (l .loop .j) _ (n .result) (lit< tt) (c .before .before .before .loop-test .taken) (n .ensures) .fits in
     (l .loop .inv .0, more-by (l .loop .inv .1) (n .result) fits _ (c .bad-in-piece .ensures))
 
 returns : tie.Need-returns Inv-loop μ-loop

@@ -5,6 +5,7 @@ use mathlib.Core.Path.{_≡_, refl, sym, _∙_}
 use native.Mathlib.Omega.{arith}
 use borrow.Author.Needs.{needs}
 use borrow.Rule.Slice.PartMut.{same-len-mid}
+use lib.Dec.{lit<}
 use lib.ListN.{length}
 use Rattle.channels.proofs.InStep.{Stepped, steps-begun, steps-ended}
 use Rattle.channels.proofs.Pieces.{length-piece, next-piece, pieces-even, room, stepped-piece}
@@ -102,18 +103,18 @@ inverted-requires c κs =
     let v = l .loop .inv in
     let n = c .before .before .before .before .before .before .next-piece in
     let m = n .result in
-    let g = next-piece (l .loop .j) _ m (c .before .before .before .before .before .before .before .loop-test .taken) (n .ensures) in
+    let g = next-piece 256 (l .loop .j) _ m (lit< tt) (c .before .before .before .before .before .before .before .loop-test .taken) (n .ensures) in
     let h = g .fits in
     let e = sym (length-piece (v .1 .on-r) m h) in (
       c .before .before .before .before .before .before .before .before .before .are-biases .ensures,
-      (pieces-even (v .1) m h, (room (l .loop .p) m (v .2) (g .most) ∙ e, room (l .loop .q) m (v .3) (g .most) ∙ e, room (l .loop .r) m (v .4) (g .most) ∙ e)),
+      (pieces-even (v .1) m h, (room (l .loop .p) m (v .2) (g .few) ∙ e, room (l .loop .q) m (v .3) (g .few) ∙ e, room (l .loop .r) m (v .4) (g .few) ∙ e)),
     )
 
 loop-less : tie.Need-loop-less Inv-loop μ-loop
 loop-less c =
     let l = c .before .before .before .before .before .before .before .before .before .before .before .before .before .before .before .before .before .before in
     let n = c .before .before .before .before .before .before .before .before .before .before .before .before .before .before .before .before .next-piece in
-    next-piece (l .loop .j) _ (n .result) (c .before .before .before .before .before .before .before .before .before .before .before .before .before .before .before .before .before .loop-test .taken) (n .ensures) .falls
+    next-piece 256 (l .loop .j) _ (n .result) (lit< tt) (c .before .before .before .before .before .before .before .before .before .before .before .before .before .before .before .before .before .loop-test .taken) (n .ensures) .falls
 
 loop-again : tie.Need-loop-again Inv-loop μ-loop
 loop-again c =
@@ -121,7 +122,7 @@ loop-again c =
     let v = l .loop .inv in
     let n = c .before .before .before .before .before .before .before .before .before .before .before .before .before .before .before .before .next-piece in
     let m = n .result in
-    let h = next-piece (l .loop .j) _ m (c .before .before .before .before .before .before .before .before .before .before .before .before .before .before .before .before .before .loop-test .taken) (n .ensures) .fits in
+    let h = next-piece 256 (l .loop .j) _ m (lit< tt) (c .before .before .before .before .before .before .before .before .before .before .before .before .before .before .before .before .before .loop-test .taken) (n .ensures) .fits in
     let t = c .before .before .before .before .before .before .before .before .before .inverted in (
       v .0,
       stepped-piece (v .1) m h (t .last .1 .1 .1 .1 .0) (t .last .1 .1 .1 .1 .1 .0) (t .last .1 .1 .1 .1 .1 .1 .0) (t .ensures),

@@ -4,11 +4,12 @@ use Prim.Native.Nat.{_-_}
 use mathlib.Core.Path.{_≡_, ap, refl}
 use native.Mathlib.Omega.{arith}
 use borrow.Author.Needs.{needs}
+use lib.Dec.{lit<}
 use lib.ListN.{length}
 use Rattle.channels.proofs.InStep.{Stepped, steps-begun, steps-ended}
-use Rattle.channels.proofs.Pieces.{pieces-even, stepped-piece}
+use Rattle.channels.proofs.Pieces.{next-piece, pieces-even, stepped-piece}
 use Rattle.ycbcr.specs.Ycbcr.{rgbBy}
-use Rattle.ycbcr.proofs.Blocks.{block-kept, block-ready, next-block}
+use Rattle.ycbcr.proofs.Blocks.{block-kept, block-ready}
 use Rattle.ycbcr.proofs.piece.by_blocks.Statement.{statement}
 use Rattle.ycbcr.proofs.piece.by_blocks.Tie as tie
 
@@ -24,11 +25,11 @@ loop-holds c =
     let s = z .pre .1 .1 .1 in
     (refl, steps-begun (rgbBy (z .args .k)) _ _ _ (z .pre .1 .0), ap (λ t. length (t .a)) s, ap (λ t. length (t .b)) s, ap (λ t. length (t .c)) s)
 
-sub-next-block : tie.Need-sub-next-block Inv-loop μ-loop
-sub-next-block c = omega arith
+sub-next-piece : tie.Need-sub-next-piece Inv-loop μ-loop
+sub-next-piece c = omega arith
 
-next-block-requires : tie.Need-next-block-requires Inv-loop μ-loop
-next-block-requires c κs = search needs
+next-piece-requires : tie.Need-next-piece-requires Inv-loop μ-loop
+next-piece-requires c κs = search needs
 
 add-e : tie.Need-add-e Inv-loop μ-loop
 add-e c = omega arith
@@ -110,22 +111,22 @@ block-requires c κs =
     let z = c .before .before .before .before .before .before .before .before .before .before .before .before .before .before .before in
     let l = c .before .before .before .before .before .before .before .before in
     let v = l .loop .inv in
-    let n = c .before .before .before .before .before .before .next-block in
+    let n = c .before .before .before .before .before .before .next-piece in
     let m = n .result in
-    let h = next-block (l .loop .j) _ m (c .before .before .before .before .before .before .before .loop-test .taken) (n .ensures) .fits in
+    let h = next-piece 32 (l .loop .j) _ m (lit< tt) (c .before .before .before .before .before .before .before .loop-test .taken) (n .ensures) .fits in
     (z .pre .0, (pieces-even (v .1) m h, (block-ready (v .1) m h (z .pre .1 .1 .0), block-kept (v .1) m h _ _ _ (z .pre .1 .1 .1))))
 
 loop-less : tie.Need-loop-less Inv-loop μ-loop
 loop-less c =
-    let n = c .before .before .before .before .before .before .before .before .before .before .before .before .before .next-block in
-    next-block (c .before .before .before .before .before .before .before .before .before .before .before .before .before .before .before .loop .j) _ (n .result) (c .before .before .before .before .before .before .before .before .before .before .before .before .before .before .loop-test .taken) (n .ensures) .falls
+    let n = c .before .before .before .before .before .before .before .before .before .before .before .before .before .next-piece in
+    next-piece 32 (c .before .before .before .before .before .before .before .before .before .before .before .before .before .before .before .loop .j) _ (n .result) (lit< tt) (c .before .before .before .before .before .before .before .before .before .before .before .before .before .before .loop-test .taken) (n .ensures) .falls
 
 loop-again : tie.Need-loop-again Inv-loop μ-loop
 loop-again c =
     let v = c .before .before .before .before .before .before .before .before .before .before .before .before .before .before .before .loop .inv in
-    let n = c .before .before .before .before .before .before .before .before .before .before .before .before .before .next-block in
+    let n = c .before .before .before .before .before .before .before .before .before .before .before .before .before .next-piece in
     let m = n .result in
-    let h = next-block (c .before .before .before .before .before .before .before .before .before .before .before .before .before .before .before .loop .j) _ m (c .before .before .before .before .before .before .before .before .before .before .before .before .before .before .loop-test .taken) (n .ensures) .fits in
+    let h = next-piece 32 (c .before .before .before .before .before .before .before .before .before .before .before .before .before .before .before .loop .j) _ m (lit< tt) (c .before .before .before .before .before .before .before .before .before .before .before .before .before .before .loop-test .taken) (n .ensures) .fits in
     let t = c .before .before .before .before .before .before .block in
     (v .0, stepped-piece (v .1) m h (t .last .1 .1 .1 .1 .0) (t .last .1 .1 .1 .1 .1 .0) (t .last .1 .1 .1 .1 .1 .1 .0) (t .ensures), v .2, v .3, v .4)
 
@@ -148,8 +149,8 @@ by-blocks-spec =
     Inv-loop
     μ-loop
     loop-holds
-    sub-next-block
-    next-block-requires
+    sub-next-piece
+    next-piece-requires
     add-e
     mul-block
     sub-block
