@@ -19,6 +19,9 @@ mod ours;
 mod given;
 #[path = "frames/samples.rs"]
 mod samples;
+#[cfg(without)]
+#[path = "frames/without.rs"]
+mod without;
 
 /// Where `convert.rs` looks for it.
 use given::ciexyz;
@@ -32,7 +35,7 @@ const SIZES: [usize; 3] = [1_024, 65_536, 1_048_576];
 enum By {
     /// As the crate does: AVX and FMA, where the machine has them.
     Crate,
-    /// The same loop for any processor.
+    /// The same loop for any processor, and as one without a fused instruction has it.
     Generic,
     Ours,
     /// Ours with the count of bad samples behind it.

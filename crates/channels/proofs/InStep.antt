@@ -1,16 +1,16 @@
 -- A loop that rewrites three equally long channels in step, each triple of samples by f, ends with `each f`.
 -- The loop argument is `Across`'s, in place and at f32.
 use Prim.Native.Nat.{_+_, _<_, ℕ, _≤_}
-use mathlib.Core.Path.{ap, refl, sym, _∙_, _≡_}
+use mathlib.Core.Path.{ap, refl, _≡_}
 use mathlib.Core.List.{List, map}
 use native.Mathlib.Omega.{arith}
 use lib.ListN.{getD, length, set}
 use lib.Ieee.{Float, nan}
 use Rattle.notation.proofs.Rewriting.{read}
 use Rattle.ciexyz.specs.declared.Vec3.{Vec3}
-use Rattle.channels.specs.Channels.{EquallyLong, channels, each, triples, v0Of, v1Of, v2Of, vec}
+use Rattle.channels.specs.Channels.{EquallyLong, channels, each, v0Of, v1Of, v2Of, vec}
 use Rattle.channels.proofs.Across.{Across, Row, across-begun, across-ended, in-place-step}
-use Rattle.channels.proofs.Rows.{part-at, rows-agree}
+use Rattle.channels.proofs.Rows.{rows-agree}
 
 abbrev pub samples : Row Float Vec3
 samples = record { of = vec; e0 = v0Of; e1 = v1Of; e2 = v2Of }
@@ -33,12 +33,6 @@ module _ {f : Vec3 → Vec3} {x y z a b c : List Float} {i : ℕ} (s : Stepped f
       let hy : i < length y = omega arith in
       let hz : i < length z = omega arith in
       rw (read (s .on-r) nan h, read (s .on-g) nan hy, read (s .on-b) nan hz)
-
-  -- and so what f makes of it is the row of what `each f` makes of the channels
-  pub stepped-at : (v : Vec3) → i < length x → v ≡ f (vec (getD a i nan) (getD b i nan) (getD c i nan)) → (part : Vec3 → Float) → part v ≡ getD (map part (map f (triples x y z))) i nan
-  stepped-at v h w part =
-      let l = s .as-long in
-      ap part (w ∙ ap f (still-row h)) ∙ sym (part-at vec f x y z (l .as-y) (l .as-z) part i nan h)
 
   pub steps-ended : length x ≤ i → channels a b c ≡ each f (channels x y z)
   steps-ended h = let e = across-ended s h in rw (e .0, e .1, e .2)

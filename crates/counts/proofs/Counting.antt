@@ -20,7 +20,7 @@ at-most-one x = by (isBad x)
     by true = omega arith
     by false = omega arith
 
-pub few-in : (xs : List Float) → badIn xs ≤ length xs
+few-in : (xs : List Float) → badIn xs ≤ length xs
 few-in [] = omega arith
 few-in (x ∷ xs) =
     let one = at-most-one x in

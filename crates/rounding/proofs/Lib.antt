@@ -8,12 +8,11 @@ pub mod Determined
 pub mod Differences
 pub mod Lost
 -- laws: the nearest whole number, one rounding, sums, what is exact at f64, a number of 53 digits at each format, where the digits of an
--- f32 stand, what a square says of them, and a sum of its parts
+-- f32 stand, and what a sum says of its parts
 pub mod Closest
 pub mod Rounding
 pub mod Sums
 pub mod Exact
 pub mod Single
 pub mod Placed
-pub mod Squares
 pub mod Unsigned

@@ -115,15 +115,6 @@ pub zero-or-more : (E w : ℕ) → (E * 2 ^ w ≡ 0) ⊎ (2 ^ w ≤ E * 2 ^ w)
 zero-or-more zero w = inl (zero-mul (2 ^ w))
 zero-or-more (suc E) w = inr (omega (arith, suc-mul E (2 ^ w)))
 
--- and so it is where the second part is larger than the first by so much
-pub far-apart : (A B w : ℕ) → A + 2 ^ w ≤ B → {s t : Bool} {c : ℕ} (r : OneRounding s A t B c) → (r .D ≡ 0) ⊎ (2 ^ w ≤ r .D)
-far-apart A B w far r = by (r .which)
-  where
-    by : {D : ℕ} → (D ≡ A + B) ⊎ ((D ≡ A - B) ⊎ (D ≡ B - A)) → (D ≡ 0) ⊎ (2 ^ w ≤ D)
-    by (inl e) = inr (omega arith)
-    by (inr (inl e)) = inl (omega arith)
-    by (inr (inr e)) = inr (omega arith)
-
 -- ---- the sum of two floats, by their sizes over one divisor
 pub add-at : (f : Format) (x y : Float) (s t : Bool) (a b c : ℕ) → 0 < c → HasValue x s a c → HasValue y t b c → add f x y ≡ sum f s a t b c
 unfolding add

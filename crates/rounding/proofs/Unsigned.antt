@@ -1,4 +1,4 @@
--- Where a sum of f32 that are not below zero, as squares are, is at most some value, so is each part of it.
+-- Where a sum of f32 that are not below zero is at most some value, so is each part of it.
 -- A part is rounded to itself, and rounding keeps the order.
 use Prim.Native.Nat.{ℕ, _+_, _*_, _^_, _≤_, zero-le}
 use mathlib.Core.Path.{refl, subst, sym, _∙_}
@@ -8,7 +8,7 @@ use native.Mathlib.Nat.{eq-zero-or-pos, le-add-left, le-add-right, le-of-eq, le-
 use native.Mathlib.Omega.{arith}
 use lib.Dec.{T, ltb}
 use lib.Pow.{pow-mono, pow-pos, shl-lt}
-use lib.Ieee.{Float, add, binary32, down, eq, fin, fits, inf, le, lt, mul, nan, odd, round, units, up}
+use lib.Ieee.{Float, add, binary32, down, eq, fin, fits, inf, le, lt, nan, odd, round, units, up}
 use lib.Ieee.Exact.{HasValue, odd-sign, round-exact}
 use lib.Ieee.Fits.{round-is}
 use lib.Ieee.Order.{le-of-values, round-mono}
@@ -37,14 +37,6 @@ units-unsigned q k = by (ltb (q * 2 ^ k) (2 ^ 277))
 
 round-unsigned : (a c : ℕ) → T (unsigned (round binary32 false a c))
 round-unsigned a c = subst (λ (x : Float). T (unsigned x)) (sym (round-is binary32 false a c)) (units-unsigned _ _)
-
-pub square-unsigned : (x : Float) → T (unsigned (mul binary32 x x))
-unfolding mul
-square-unsigned nan = tt
-square-unsigned (inf true) = tt
-square-unsigned (inf false) = tt
-square-unsigned (fin true m e) = round-unsigned (m * up e * (m * up e)) (down e * down e)
-square-unsigned (fin false m e) = round-unsigned (m * up e * (m * up e)) (down e * down e)
 
 pub sum-unsigned : (x y : Float) → T (unsigned x) → T (unsigned y) → T (unsigned (add binary32 x y))
 unfolding add

@@ -1,6 +1,7 @@
 // YCbCr to RGB, after src/ycbcr.rs, by the weights that a firmware means.
 mod one_pixel;
 mod piece;
+mod window;
 
 ghost use mathlib.Core.Path.{_≡_};
 ghost use Rattle.channels.specs.Channels.{EquallyLong, channels, each, equallyLong};

@@ -1,18 +1,18 @@
-// One pixel, Cb, Y, Cr in and R, G, B out: by f64 where that is sure, and else by fused products and sums.
+// One pixel, Cb, Y, Cr in and R, G, B out, where the luma has its offset: by f64 where that is sure, and else by fused products and sums.
 ghost use mathlib.Core.Path.{_≡_};
 ghost use mathlib.Core.Bool.{true};
 ghost use Rattle.channels.specs.Channels.{vec};
-ghost use Rattle.ycbcr.specs.Ycbcr.{rgbBy};
-ghost use Rattle.ycbcr.specs.Steps.{Factors, Ready, quickBy};
+ghost use Rattle.ycbcr.specs.Steps.{Factors, Ready, quickBy, rgbRaised};
 use crate::Constants;
+use crate::window;
 use ciexyz::Vec3;
 
 // For every pixel, but slowly.
 fn fused_rgb(k: Constants, cbycr: Vec3) -> Vec3
-    ensures { λ r. ⌜ r ≡ rgbBy k cbycr ⌝ }
+    ensures { λ r. ⌜ r ≡ rgbRaised k cbycr ⌝ }
 {
     let cb = cbycr.v0;
-    let y = cbycr.v1 + 128.0 / 255.0;
+    let y = cbycr.v1;
     let cr = cbycr.v2;
     let with_cr = fused::mul_add(cr, k.cr, y);
     Vec3 {
@@ -22,15 +22,11 @@ fn fused_rgb(k: Constants, cbycr: Vec3) -> Vec3
     }
 }
 
-// Whether f64 may be tried: each chroma is a zero or 1e-14 at least, and no sample above 4, so that no sum is too small or too large for f32.
-// With its offset no luma is small: it is a zero, or 2^-25 at least.
-pub(crate) fn is_ready(cb: f32, y: f32, cr: f32) -> bool
-    ensures { λ r. ⌜ (r ≡ true → Ready (vec cb y cr)) ⌝ }
+// Whether f64 may be tried.
+fn is_ready(cbycr: Vec3) -> bool
+    ensures { λ r. ⌜ (r ≡ true → Ready cbycr) ⌝ }
 {
-    let t = cb * cb;
-    let raised = y + 128.0 / 255.0;
-    let u = cr * cr;
-    ((1e-28 <= t) | (cb == 0.0)) & ((1e-28 <= u) | (cr == 0.0)) & (t + raised * raised + u <= 16.0)
+    window::are_within(window::any_of(0, cbycr), window::all_of(0xffff_ffff, cbycr))
 }
 
 // R, G, B, and whether they are sure.
@@ -46,10 +42,10 @@ pub(crate) fn by_f64(k: Constants, cbycr: Vec3) -> Worked
     requires { ⌜ Factors k ⌝ }
     requires { ⌜ Ready cbycr ⌝ }
     ensures { λ r. ⌜ vec (r .red) (r .green) (r .blue) ≡ quickBy k cbycr ⌝ }
-    ensures { λ r. ⌜ (r .sure ≡ true → quickBy k cbycr ≡ rgbBy k cbycr) ⌝ }
+    ensures { λ r. ⌜ (r .sure ≡ true → quickBy k cbycr ≡ rgbRaised k cbycr) ⌝ }
 {
     let cb = cbycr.v0 as f64;
-    let y = (cbycr.v1 + 128.0 / 255.0) as f64;
+    let y = cbycr.v1 as f64;
     let cr = cbycr.v2 as f64;
     let red = rounding::rounded(f64::to_bits(cr * (k.red as f64) + y));
     let with_cr = rounding::rounded(f64::to_bits(cr * (k.cr as f64) + y));
@@ -67,9 +63,9 @@ pub(crate) fn by_f64(k: Constants, cbycr: Vec3) -> Worked
 // A pixel that f64 is not sure of costs itself alone.
 pub(crate) fn rgb(k: Constants, cbycr: Vec3) -> Vec3
     requires { ⌜ Factors k ⌝ }
-    ensures { λ r. ⌜ r ≡ rgbBy k cbycr ⌝ }
+    ensures { λ r. ⌜ r ≡ rgbRaised k cbycr ⌝ }
 {
-    if is_ready(cbycr.v0, cbycr.v1, cbycr.v2) {
+    if is_ready(cbycr) {
         let out = by_f64(k, cbycr);
         if out.sure {
             return Vec3 {

@@ -1,35 +1,43 @@
 // A piece of three channels: block by block by f64, in loops without a branch, and pixel by pixel where that is not sure or may not be tried.
 ghost use mathlib.Core.Path.{_≡_};
 ghost use mathlib.Core.Bool.{true};
+ghost use mathlib.Core.List.{map};
 ghost use lib.ListN.{length};
 ghost use Rattle.channels.specs.Channels.{EquallyLong, channels, each};
-ghost use Rattle.ycbcr.specs.Ycbcr.{rgbBy};
-ghost use Rattle.ycbcr.specs.Steps.{AllReady, Factors};
+ghost use Rattle.ycbcr.specs.Ycbcr.{raised, rgbBy};
+ghost use Rattle.ycbcr.specs.Steps.{AllReady, Factors, rgbRaised};
 use crate::Constants;
 use crate::one_pixel;
+use crate::window;
 use ciexyz::Vec3;
 
-// Keeps the piece in p, q and r, and says whether f64 may be tried on every pixel.
-fn keep(cb: &[f32], y: &[f32], cr: &[f32], p: &mut [f32], q: &mut [f32], r: &mut [f32]) -> bool
+// Puts the offset on the luma, keeps the piece in p, q and r, and says whether f64 may be tried on every pixel.
+fn keep(cb: &[f32], y: &mut [f32], cr: &[f32], p: &mut [f32], q: &mut [f32], r: &mut [f32]) -> bool
     requires { ⌜ EquallyLong (channels (now cb) (now y) (now cr)) ⌝ }
     requires { ⌜ (length (now p) ≡ length (now cb)) × (length (now q) ≡ length (now cb)) × (length (now r) ≡ length (now cb)) ⌝ }
-    ensures { λ _. ⌜ channels (now (p .exit)) (now (q .exit)) (now (r .exit)) ≡ channels (now (cb .entry)) (now (y .entry)) (now (cr .entry)) ⌝ }
-    ensures { λ r. ⌜ (r ≡ true → AllReady (now (cb .entry)) (now (y .entry)) (now (cr .entry))) ⌝ }
+    ensures { λ _. ⌜ now (y .exit) ≡ map raised (now (y .entry)) ⌝ }
+    ensures { λ _. ⌜ channels (now (p .exit)) (now (q .exit)) (now (r .exit)) ≡ channels (now (cb .entry)) (now (y .exit)) (now (cr .entry)) ⌝ }
+    ensures { λ r. ⌜ (r ≡ true → AllReady (now (cb .entry)) (now (y .exit)) (now (cr .entry))) ⌝ }
 {
     let n = cb.len();
-    let mut ready = true;
+    let mut any: u32 = 0;
+    let mut all: u32 = 0xffff_ffff;
     let mut i: usize = 0;
     while i < n {
-        let u = cb[i];
-        let v = y[i];
-        let w = cr[i];
-        p[i] = u;
-        q[i] = v;
-        r[i] = w;
-        ready = ready & one_pixel::is_ready(u, v, w);
+        let cbycr = Vec3 {
+            v0: cb[i],
+            v1: y[i] + 128.0 / 255.0,
+            v2: cr[i],
+        };
+        y[i] = cbycr.v1;
+        p[i] = cbycr.v0;
+        q[i] = cbycr.v1;
+        r[i] = cbycr.v2;
+        any = window::any_of(any, cbycr);
+        all = window::all_of(all, cbycr);
         i += 1;
     }
-    ready
+    window::are_within(any, all)
 }
 
 // In place, and whether every pixel is sure.
@@ -37,7 +45,7 @@ fn each_by_f64(k: Constants, cb: &mut [f32], y: &mut [f32], cr: &mut [f32]) -> b
     requires { ⌜ Factors k ⌝ }
     requires { ⌜ EquallyLong (channels (now cb) (now y) (now cr)) ⌝ }
     requires { ⌜ AllReady (now cb) (now y) (now cr) ⌝ }
-    ensures { λ r. ⌜ (r ≡ true → channels (now (cb .exit)) (now (y .exit)) (now (cr .exit)) ≡ each (rgbBy k) (channels (now (cb .entry)) (now (y .entry)) (now (cr .entry)))) ⌝ }
+    ensures { λ r. ⌜ (r ≡ true → channels (now (cb .exit)) (now (y .exit)) (now (cr .exit)) ≡ each (rgbRaised k) (channels (now (cb .entry)) (now (y .entry)) (now (cr .entry)))) ⌝ }
 {
     let n = cb.len();
     let mut sure = true;
@@ -71,7 +79,7 @@ fn each_alone(
     requires { ⌜ Factors k ⌝ }
     requires { ⌜ EquallyLong (channels (now p) (now q) (now r)) ⌝ }
     requires { ⌜ (length (now cb) ≡ length (now p)) × (length (now y) ≡ length (now p)) × (length (now cr) ≡ length (now p)) ⌝ }
-    ensures { λ _. ⌜ channels (now (cb .exit)) (now (y .exit)) (now (cr .exit)) ≡ each (rgbBy k) (channels (now (p .entry)) (now (q .entry)) (now (r .entry))) ⌝ }
+    ensures { λ _. ⌜ channels (now (cb .exit)) (now (y .exit)) (now (cr .exit)) ≡ each (rgbRaised k) (channels (now (p .entry)) (now (q .entry)) (now (r .entry))) ⌝ }
 {
     let n = p.len();
     let mut i: usize = 0;
@@ -103,7 +111,7 @@ fn block(
     requires { ⌜ EquallyLong (channels (now cb) (now y) (now cr)) ⌝ }
     requires { ⌜ AllReady (now cb) (now y) (now cr) ⌝ }
     requires { ⌜ channels (now p) (now q) (now r) ≡ channels (now cb) (now y) (now cr) ⌝ }
-    ensures { λ _. ⌜ channels (now (cb .exit)) (now (y .exit)) (now (cr .exit)) ≡ each (rgbBy k) (channels (now (cb .entry)) (now (y .entry)) (now (cr .entry))) ⌝ }
+    ensures { λ _. ⌜ channels (now (cb .exit)) (now (y .exit)) (now (cr .exit)) ≡ each (rgbRaised k) (channels (now (cb .entry)) (now (y .entry)) (now (cr .entry))) ⌝ }
 {
     if !each_by_f64(k, cb, y, cr) {
         each_alone(k, p, q, r, cb, y, cr);
@@ -124,7 +132,7 @@ fn by_blocks(
     requires { ⌜ EquallyLong (channels (now cb) (now y) (now cr)) ⌝ }
     requires { ⌜ AllReady (now cb) (now y) (now cr) ⌝ }
     requires { ⌜ channels (now p) (now q) (now r) ≡ channels (now cb) (now y) (now cr) ⌝ }
-    ensures { λ _. ⌜ channels (now (cb .exit)) (now (y .exit)) (now (cr .exit)) ≡ each (rgbBy k) (channels (now (cb .entry)) (now (y .entry)) (now (cr .entry))) ⌝ }
+    ensures { λ _. ⌜ channels (now (cb .exit)) (now (y .exit)) (now (cr .exit)) ≡ each (rgbRaised k) (channels (now (cb .entry)) (now (y .entry)) (now (cr .entry))) ⌝ }
 {
     let n = cb.len();
     let mut j: usize = 0;

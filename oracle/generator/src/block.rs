@@ -6,7 +6,7 @@ pub mod cases;
 use crate::encodings::GREATEST_G;
 use crate::lists;
 use crate::ops::{Op, is_retired};
-use crate::record::{Kind, LONGEST, Record};
+use crate::record::{Kind, Record, next};
 use crate::rng::Rng;
 use std::io::Write;
 
@@ -146,13 +146,7 @@ fn written(
     let mut fixed = fixed.into_iter();
     let mut refused = [0; 11];
     for _ in 0..count {
-        let (bytes, record) = loop {
-            let bytes = fixed.next().unwrap_or_else(|| random(rng));
-            let record = record(&bytes);
-            if record.bytes() <= LONGEST {
-                break (bytes, record);
-            }
-        };
+        let (bytes, record) = next(&mut fixed, || random(rng), |bytes| record(bytes));
         refused[read(&bytes).err().unwrap_or(0) as usize] += 1;
         record.write(out);
     }

@@ -4,7 +4,7 @@
 use crate::block::cases::op;
 use crate::lists::{List, checked, well_formed};
 use crate::ops::{NAMES, Op, is_retired};
-use crate::record::{Kind, LONGEST, Record};
+use crate::record::{Kind, Record, next};
 use crate::rng::Rng;
 use crate::writing::{self, write_into};
 use std::io::Write;
@@ -85,13 +85,7 @@ pub fn write(rng: &mut Rng, count: usize, out: &mut impl Write) {
     let mut fixed = fixed().into_iter();
     let (mut refused, mut falsely) = ([0; 11], 0);
     for _ in 0..count {
-        let (list, record) = loop {
-            let list = fixed.next().unwrap_or_else(|| random(rng));
-            let record = record(&list);
-            if record.bytes() <= LONGEST {
-                break (list, record);
-            }
-        };
+        let (list, record) = next(&mut fixed, || random(rng), record);
         refused[run(&list)[0] as usize] += 1;
         falsely += (well_formed(list.start, list.count) && list.ends_falsely()) as usize;
         record.write(out);

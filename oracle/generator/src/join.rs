@@ -5,7 +5,7 @@ use crate::block::cases::op;
 use crate::debug;
 use crate::lists::{self, List, checked, well_formed};
 use crate::ops::{Op, list};
-use crate::record::{Kind, LONGEST, Record};
+use crate::record::{Kind, Record, next};
 use crate::rng::Rng;
 use std::io::Write;
 
@@ -63,13 +63,7 @@ pub fn write(rng: &mut Rng, count: usize, out: &mut impl Write) {
     let mut fixed = fixed().into_iter();
     let mut seen = Seen::default();
     for _ in 0..count {
-        let (pair, record) = loop {
-            let pair = fixed.next().unwrap_or_else(|| random(rng));
-            let record = record(&pair);
-            if record.bytes() <= LONGEST {
-                break (pair, record);
-            }
-        };
+        let (pair, record) = next(&mut fixed, || random(rng), record);
         seen.count(&pair);
         record.write(out);
     }

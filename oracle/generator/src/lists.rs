@@ -3,7 +3,7 @@
 use crate::ops::Op;
 
 /// A start width, the ops in its first slots, Clip being in the others, a count, and an end width that need not be true.
-#[derive(Clone)]
+#[derive(Clone, Debug)]
 pub struct List {
     pub start: u8,
     pub slots: Vec<Op>,

@@ -3,20 +3,18 @@
 use crate::debug;
 use crate::lists;
 use crate::ops::{Op, list};
-use crate::record::{Kind, LONGEST, Record};
+use crate::record::{Kind, Record, next};
 use crate::rng::Rng;
 use std::io::Write;
 
 pub fn write(rng: &mut Rng, count: usize, out: &mut impl Write) {
     let mut fixed = fixed(rng).into_iter();
     for _ in 0..count {
-        let record = loop {
-            let (start, ops) = fixed.next().unwrap_or_else(|| random(rng));
-            let record = record(start, &ops);
-            if record.bytes() <= LONGEST {
-                break record;
-            }
-        };
+        let (_, record) = next(
+            &mut fixed,
+            || random(rng),
+            |(start, ops)| record(*start, ops),
+        );
         record.write(out);
     }
     eprintln!("merge: {count} lists");

@@ -1,6 +1,7 @@
 //! A record: one line of words, each of eight hexadecimal digits.
 
 use given::door::word;
+use std::fmt::Debug;
 use std::io::Write;
 
 /// The kinds of records, as README.md lists them.
@@ -41,6 +42,26 @@ pub const LONGEST: usize = 4000;
 
 pub struct Record(Vec<u32>);
 
+/// The next case with its record: a fixed one, each of which has room in a line, and after them the first random one that has.
+pub fn next<C: Debug>(
+    fixed: &mut impl Iterator<Item = C>,
+    mut random: impl FnMut() -> C,
+    record: impl Fn(&C) -> Record,
+) -> (C, Record) {
+    if let Some(case) = fixed.next() {
+        let record = record(&case);
+        assert!(record.is_short(), "too long a case: {case:?}");
+        return (case, record);
+    }
+    loop {
+        let case = random();
+        let record = record(&case);
+        if record.is_short() {
+            return (case, record);
+        }
+    }
+}
+
 impl Record {
     pub fn new(kind: Kind) -> Self {
         Self(vec![kind as u32])
@@ -71,8 +92,12 @@ impl Record {
         9 * self.0.len()
     }
 
+    pub fn is_short(&self) -> bool {
+        self.bytes() <= LONGEST
+    }
+
     pub fn write(&self, out: &mut impl Write) {
-        assert!(self.bytes() <= LONGEST, "a line of {} bytes", self.bytes());
+        assert!(self.is_short(), "a line of {} bytes", self.bytes());
         let words: Vec<String> = self.0.iter().map(|w| format!("{w:08x}")).collect();
         writeln!(out, "{}", words.join(" ")).expect("standard output");
     }

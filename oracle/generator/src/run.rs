@@ -5,7 +5,7 @@ use crate::edges::{ORDINARY, at_edges};
 use crate::floats::power;
 use crate::lists;
 use crate::ops::{Op, list};
-use crate::record::{Kind, LONGEST, Record};
+use crate::record::{Kind, Record, next};
 use crate::rng::Rng;
 use given::door::word;
 use std::io::Write;
@@ -26,20 +26,7 @@ pub fn write(rng: &mut Rng, count: usize, out: &mut impl Write) {
     let mut fixed = fixed().into_iter();
     let mut roots = 0;
     for _ in 0..count {
-        let (case, record) = match fixed.next() {
-            Some(case) => {
-                let record = record(&case);
-                assert!(record.bytes() <= LONGEST, "too long a case: {case:?}");
-                (case, record)
-            }
-            None => loop {
-                let case = random(rng);
-                let record = record(&case);
-                if record.bytes() <= LONGEST {
-                    break (case, record);
-                }
-            },
-        };
+        let (case, record) = next(&mut fixed, || random(rng), record);
         roots += case.wrong_roots();
         record.write(out);
     }

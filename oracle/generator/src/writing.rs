@@ -5,7 +5,7 @@ pub mod cases;
 use crate::block::{self, CurveAndG, FIELDS, Flag, Float};
 use crate::lists::List;
 use crate::ops::{Op, is_retired};
-use crate::record::{Kind, LONGEST, Record};
+use crate::record::{Kind, Record};
 use crate::rng::Rng;
 use std::io::Write;
 
@@ -100,12 +100,15 @@ fn written(
     let mut refused = [0; 16];
     for _ in 0..count {
         let (number, record) = loop {
-            let (list, version, room) = fixed.next().unwrap_or_else(|| random(rng));
+            let found = fixed.next();
+            let is_fixed = found.is_some();
+            let (list, version, room) = found.unwrap_or_else(|| random(rng));
             let before: Vec<u8> = (0..room).map(|_| rng.next() as u8).collect();
             let (number, record) = answered(&list, version, before);
-            if record.bytes() <= LONGEST {
+            if record.is_short() {
                 break (number, record);
             }
+            assert!(!is_fixed, "too long a case: {list:?}");
         };
         refused[number as usize] += 1;
         record.write(out);

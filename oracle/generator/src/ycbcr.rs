@@ -80,8 +80,33 @@ fn below_normal() -> Vec<(u32, Channels)> {
         .to_vec()
 }
 
-/// The edges, in each channel and in all three, by each firmware that the Rust judges in turn, then by 4; the refused ones; and sums below the
-/// normal numbers.
+/// Samples at the ends of a window, 2^-31 and 2, and next to them, of either sign and in each channel, the luma as it is raised; and those sums
+/// below the normal numbers. Behind each stands an ordinary pixel, since a piece is judged as a whole.
+fn at_window() -> Vec<(u32, Channels)> {
+    let ends = [2.0f32.powi(-31), 2.0].into_iter();
+    let near = ends.flat_map(|end| [end.next_down(), end, end.next_up()]);
+    let signed: Vec<f32> = near.flat_map(|size| [size, -size]).collect();
+    let mut all = below_normal();
+    for firmware in [1, 4] {
+        for place in 0..3 {
+            for &sample in &signed {
+                let mut pixel = ORDINARY;
+                let offset = if place == 1 { 128.0 / 255.0 } else { 0.0 };
+                pixel[place] = sample - offset;
+                all.push((firmware, pixel.map(|sample| vec![sample])));
+            }
+        }
+    }
+    for (_, channels) in &mut all {
+        for (channel, sample) in channels.iter_mut().zip(ORDINARY) {
+            channel.push(sample);
+        }
+    }
+    all
+}
+
+/// The edges, in each channel and in all three, by each firmware that the Rust judges in turn, then by 4; the refused ones; sums below the
+/// normal numbers; and the ends of the window.
 fn fixed(rng: &mut Rng) -> Vec<(u32, Channels)> {
     let edges = || at_edges(ORDINARY).map(|pixel| pixel.map(|sample| vec![sample]));
     let of_rust = edges()
@@ -92,6 +117,7 @@ fn fixed(rng: &mut Rng) -> Vec<(u32, Channels)> {
         .chain(of_bt709)
         .chain(refused(rng))
         .chain(below_normal())
+        .chain(at_window())
         .collect()
 }
 

@@ -1,7 +1,7 @@
--- `fused_rgb` is `rgbBy`.
+-- `fused_rgb` is `rgbRaised`.
 -- Each of the three is fused, by `mul_add`'s contract.
 use borrow.Author.Needs.{needs}
-use Rattle.ycbcr.specs.Ycbcr.{raised, rgbBy}
+use Rattle.ycbcr.specs.Steps.{rgbRaised}
 use Rattle.ycbcr.proofs.one_pixel.fused_rgb.Statement.{statement}
 use Rattle.ycbcr.proofs.one_pixel.fused_rgb.Tie as tie
 
@@ -18,7 +18,7 @@ mul-add-requires-4 : tie.Need-mul-add-requires-4
 mul-add-requires-4 c κs = search needs
 
 returns : tie.Need-returns
-unfolding rgbBy raised
+unfolding rgbRaised
 returns c = cc
 
 pub fused-rgb-spec : {M : Type 1} → statement M

@@ -1,4 +1,4 @@
--- `rgb` is `rgbBy`.
+-- `rgb` is `rgbRaised`.
 -- Where the pixel is ready and sure, `by_f64` says so; else by `fused_rgb`'s contract.
 use mathlib.Core.Path.{_∙_}
 use borrow.Author.Needs.{needs}

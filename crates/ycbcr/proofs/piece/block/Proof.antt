@@ -1,4 +1,4 @@
--- `block` makes of a block what `rgbBy` makes of each triple.
+-- `block` makes of a block what `rgbRaised` makes of each triple.
 -- Where f64 was not sure, the loop goes over p, q and r, which are the block.
 use mathlib.Core.Path.{_≡_, ap, _∙_}
 use native.Mathlib.Omega.{arith}
@@ -7,7 +7,7 @@ use borrow.Author.Tests.{not-false}
 use denote.Ref.{now}
 use lib.ListN.{length}
 use Rattle.channels.specs.Channels.{each}
-use Rattle.ycbcr.specs.Ycbcr.{rgbBy}
+use Rattle.ycbcr.specs.Steps.{rgbRaised}
 use Rattle.ycbcr.proofs.piece.block.Statement.{statement}
 use Rattle.ycbcr.proofs.piece.block.Tie as tie
 
@@ -34,7 +34,7 @@ same-length-3 : tie.Need-same-length-3
 same-length-3 c = search needs
 
 returns : tie.Need-returns
-returns c = c .before .before .before .before .before .before .each-alone .ensures ∙ ap (each (rgbBy (c .before .before .before .before .before .before .before .before .before .before .before .before .before .before .before .before .before .before .before .before .before .before .before .before .before .before .before .args .k))) (c .before .before .before .before .before .before .before .before .before .before .before .before .before .before .before .before .before .before .before .before .before .before .before .before .before .before .before .pre .1 .1 .1)
+returns c = c .before .before .before .before .before .before .each-alone .ensures ∙ ap (each (rgbRaised (c .before .before .before .before .before .before .before .before .before .before .before .before .before .before .before .before .before .before .before .before .before .before .before .before .before .before .before .args .k))) (c .before .before .before .before .before .before .before .before .before .before .before .before .before .before .before .before .before .before .before .before .before .before .before .before .before .before .before .pre .1 .1 .1)
 
 same-length-4 : tie.Need-same-length-4
 same-length-4 c = search needs

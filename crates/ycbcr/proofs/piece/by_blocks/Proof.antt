@@ -1,5 +1,5 @@
--- `by_blocks` makes of a piece what `rgbBy` makes of each triple.
--- Block by block is as place by place (`Pieces`), for the function `rgbBy k`; each block is ready, and kept (`Blocks`).
+-- `by_blocks` makes of a piece what `rgbRaised` makes of each triple.
+-- Block by block is as place by place (`Pieces`), for the function `rgbRaised k`; each block is ready, and kept (`Blocks`).
 use Prim.Native.Nat.{_-_}
 use mathlib.Core.Path.{_≡_, ap, refl}
 use native.Mathlib.Omega.{arith}
@@ -8,13 +8,13 @@ use lib.Dec.{lit<}
 use lib.ListN.{length}
 use Rattle.channels.proofs.InStep.{Stepped, steps-begun, steps-ended}
 use Rattle.channels.proofs.Pieces.{next-piece, pieces-even, stepped-piece}
-use Rattle.ycbcr.specs.Ycbcr.{rgbBy}
+use Rattle.ycbcr.specs.Steps.{rgbRaised}
 use Rattle.ycbcr.proofs.Blocks.{block-kept, block-ready}
 use Rattle.ycbcr.proofs.piece.by_blocks.Statement.{statement}
 use Rattle.ycbcr.proofs.piece.by_blocks.Tie as tie
 
 abbrev Inv-loop : tie.InvT-loop
-Inv-loop k p q r cb₀ y₀ cr₀ n j₀ cb y cr j = (n ≡ length cb₀) × Stepped (rgbBy k) cb₀ y₀ cr₀ j cb y cr × (length p ≡ length cb₀) × (length q ≡ length y₀) × (length r ≡ length cr₀)
+Inv-loop k p q r cb₀ y₀ cr₀ n j₀ cb y cr j = (n ≡ length cb₀) × Stepped (rgbRaised k) cb₀ y₀ cr₀ j cb y cr × (length p ≡ length cb₀) × (length q ≡ length y₀) × (length r ≡ length cr₀)
 
 abbrev μ-loop : tie.MeasureT-loop
 μ-loop k p q r cb₀ y₀ cr₀ n j₀ cb y cr j = length cb₀ - j
@@ -23,7 +23,7 @@ loop-holds : tie.Need-loop-holds Inv-loop μ-loop
 loop-holds c =
     let z = c .before .before .before .before .before .before in
     let s = z .pre .1 .1 .1 in
-    (refl, steps-begun (rgbBy (z .args .k)) _ _ _ (z .pre .1 .0), ap (λ t. length (t .a)) s, ap (λ t. length (t .b)) s, ap (λ t. length (t .c)) s)
+    (refl, steps-begun (rgbRaised (z .args .k)) _ _ _ (z .pre .1 .0), ap (λ t. length (t .a)) s, ap (λ t. length (t .b)) s, ap (λ t. length (t .c)) s)
 
 sub-next-piece : tie.Need-sub-next-piece Inv-loop μ-loop
 sub-next-piece c = omega arith

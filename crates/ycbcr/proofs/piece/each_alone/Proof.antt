@@ -1,5 +1,5 @@
 -- `each_alone` converts each triple that was kept.
--- The loop argument is `Across`'s, for the function `rgbBy k`.
+-- The loop argument is `Across`'s, for the function `rgbRaised k`.
 use Prim.Native.Nat.{_-_}
 use mathlib.Core.Path.{_≡_, refl}
 use native.Mathlib.Omega.{arith}
@@ -8,12 +8,12 @@ use lib.ListN.{length}
 use lib.Ieee.{nan}
 use Rattle.channels.proofs.Across.{Across, across-begun, across-ended, across-step}
 use Rattle.channels.proofs.InStep.{samples}
-use Rattle.ycbcr.specs.Ycbcr.{rgbBy}
+use Rattle.ycbcr.specs.Steps.{rgbRaised}
 use Rattle.ycbcr.proofs.piece.each_alone.Statement.{statement}
 use Rattle.ycbcr.proofs.piece.each_alone.Tie as tie
 
 abbrev Inv-loop : tie.InvT-loop
-Inv-loop k p q r cb₀ y₀ cr₀ n i₀ cb y cr i = (n ≡ length p) × Across samples (rgbBy k) p q r cb₀ y₀ cr₀ i cb y cr
+Inv-loop k p q r cb₀ y₀ cr₀ n i₀ cb y cr i = (n ≡ length p) × Across samples (rgbRaised k) p q r cb₀ y₀ cr₀ i cb y cr
 
 abbrev μ-loop : tie.MeasureT-loop
 μ-loop k p q r cb₀ y₀ cr₀ n i₀ cb y cr i = length p - i
@@ -23,7 +23,7 @@ loop-holds c =
     let z = c .before .before .before .before .before .before in
     let e = z .pre .1 .0 in
     let l = z .pre .1 .1 in
-    (refl, across-begun samples (rgbBy (z .args .k)) _ _ _ _ _ _ (record { as-y = e .0; as-z = e .1; as-r = l .0; as-g = l .1; as-b = l .2 }))
+    (refl, across-begun samples (rgbRaised (z .args .k)) _ _ _ _ _ _ (record { as-y = e .0; as-z = e .1; as-r = l .0; as-g = l .1; as-b = l .2 }))
 
 mul-t13 : tie.Need-mul-t13 Inv-loop μ-loop
 mul-t13 c = omega arith

@@ -1,5 +1,5 @@
 -- `each_by_f64` converts each triple, where it says that every one is sure.
--- The loop argument is `InStep`'s, for the function `quickBy k`, which is `rgbBy k` at every place that was passed.
+-- The loop argument is `InStep`'s, for the function `quickBy k`, which is `rgbRaised k` at every place that was passed.
 use Prim.Native.Nat.{_-_, _<_, ℕ}
 use mathlib.Core.Path.{_≡_, refl, subst, sym, _∙_}
 use mathlib.Core.Bool.{true}
@@ -11,15 +11,14 @@ use Rattle.ciexyz.specs.declared.Vec3.{Vec3}
 use Rattle.channels.specs.Channels.{vec}
 use Rattle.channels.proofs.Holds.{both-hold}
 use Rattle.channels.proofs.InStep.{Stepped, each-agrees, stepped, steps-begun, steps-ended, still-row}
-use Rattle.ycbcr.specs.Ycbcr.{rgbBy}
-use Rattle.ycbcr.specs.Steps.{Ready, quickBy}
+use Rattle.ycbcr.specs.Steps.{Ready, quickBy, rgbRaised}
 use Rattle.ycbcr.proofs.piece.each_by_f64.Statement.{statement}
 use Rattle.ycbcr.proofs.piece.each_by_f64.Tie as tie
 
 abbrev Inv-loop : tie.InvT-loop
 Inv-loop k cb₀ y₀ cr₀ n sure₀ i₀ cb y cr sure i =
     (n ≡ length cb₀) × Stepped (quickBy k) cb₀ y₀ cr₀ i cb y cr
-    × (sure ≡ true → (j : ℕ) → j < i → quickBy k (vec (getD cb₀ j nan) (getD y₀ j nan) (getD cr₀ j nan)) ≡ rgbBy k (vec (getD cb₀ j nan) (getD y₀ j nan) (getD cr₀ j nan)))
+    × (sure ≡ true → (j : ℕ) → j < i → quickBy k (vec (getD cb₀ j nan) (getD y₀ j nan) (getD cr₀ j nan)) ≡ rgbRaised k (vec (getD cb₀ j nan) (getD y₀ j nan) (getD cr₀ j nan)))
 
 abbrev μ-loop : tie.MeasureT-loop
 μ-loop k cb₀ y₀ cr₀ n sure₀ i₀ cb y cr sure i = length cb₀ - i
@@ -89,7 +88,7 @@ loop-again c =
       stepped (v .1) (vec (f .result .red) (f .result .green) (f .result .blue)) h (f .ensures .0),
       λ e.
           let g = both-hold (l .loop .sure) (f .result .sure) e in
-          below-more _ (l .loop .i) (v .2 (g .0)) (subst (λ (s : Vec3). quickBy (a .k) s ≡ rgbBy (a .k) s) (still-row (v .1) h) (f .ensures .1 (g .1))),
+          below-more _ (l .loop .i) (v .2 (g .0)) (subst (λ (s : Vec3). quickBy (a .k) s ≡ rgbRaised (a .k) s) (still-row (v .1) h) (f .ensures .1 (g .1))),
     )
 
 same-length : tie.Need-same-length Inv-loop μ-loop
@@ -105,7 +104,7 @@ returns : tie.Need-returns Inv-loop μ-loop
 returns c =
     let v = c .before .loop .inv in
     let z = c .before .before .before .before .before in
-    λ e. steps-ended (v .1) (omega arith) ∙ each-agrees (quickBy (z .args .k)) (rgbBy (z .args .k)) (z .args .cb .now) (z .args .y .now) (z .args .cr .now) (z .pre .1 .0) (λ j h. v .2 e j (omega arith))
+    λ e. steps-ended (v .1) (omega arith) ∙ each-agrees (quickBy (z .args .k)) (rgbRaised (z .args .k)) (z .args .cb .now) (z .args .y .now) (z .args .cr .now) (z .pre .1 .0) (λ j h. v .2 e j (omega arith))
 
 pub each-by-f64-spec : {M : Type 1} → statement M
 each-by-f64-spec =
