@@ -16,7 +16,7 @@ use Rattle.parts.specs.Parts.{kind_of, values_of, op_by, field_of}
 use Rattle.parts.proofs.Back.{known_kind, shape, op-back, kind_back, values_back}
 use Rattle.block.specs.Fields.{payload_of, values_in, op_read}
 use Rattle.block.specs.BadFields.{any_bad}
-use Rattle.block.specs.Refusals.{Unreadable, bad_field, Stands, stands, AllStand, none, more, Met}
+use Rattle.block.specs.Refusals.{Unreadable, field_is_bad, Stands, stands, AllStand, none, more, Met}
 use Rattle.block.proofs.Badness.{bad_exactly}
 use Rattle.block.proofs.Ways.{met_first, met_later}
 use Rattle.writer.specs.Bytes.{value_bytes, joined, op_bytes, ops_size}
@@ -59,7 +59,7 @@ module _ (o : Op) (h : OpHeld o) where
         (stands (known_kind o) long ((fails_exactly (bad_exactly (layout_of (kind_of o)) (take (payload_of (kind_of o)) (payload ++ t)))).0 (bad-as ∙ e)))
 
     op-unreadable : bad_op o ≡ true → Unreadable (op_bytes o ++ t)
-    op-unreadable e = bad_field (known_kind o) long ((bad_exactly (layout_of (kind_of o)) (take (payload_of (kind_of o)) (payload ++ t))).0 (bad-as ∙ e))
+    op-unreadable e = field_is_bad (known_kind o) long ((bad_exactly (layout_of (kind_of o)) (take (payload_of (kind_of o)) (payload ++ t))).0 (bad-as ∙ e))
 
 behind : (o : Op) (t : List ℕ) → drop (suc (payload_of (kind_of o))) (op_bytes o ++ t) ≡ t
 behind o t = drop_at (joined value_bytes (values_of o)) t (payload_of (kind_of o)) (payload-is o)

@@ -6,7 +6,7 @@ use mathlib.Core.Logic.{◌↔◌}
 use borrow.Author.Tests.{lt-ltb, ltb-true}
 use lib.Ieee.{is_nan}
 use Rattle.notation.proofs.Several.{any_exactly}
-use Rattle.binary32.proofs.Nan.{is_nan, nan_test}
+use Rattle.binary32.proofs.Nan.{is_nan_lem, nan_test}
 use Rattle.op.proofs.Retired.{retired-exactly}
 use Rattle.parts.specs.Curves.{gamma_of}
 use Rattle.parts.specs.Parts.{values_of}
@@ -22,7 +22,7 @@ unfolding is_nan
 value_exactly v = (read v, write)
   where
     read : (v : Value) → bad_value v ≡ true → Bad v
-    read (the_float x) e = not_a_number (is_nan x (nan_test x ∙ e))
+    read (the_float x) e = not_a_number (is_nan_lem x (nan_test x ∙ e))
     read (the_flag on) e = absurd (false≢true e)
     read (the_curve c) e = g_out_of_range (ltb-true 16_777_215 (gamma_of c) e)
 

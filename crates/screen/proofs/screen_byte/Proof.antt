@@ -8,7 +8,7 @@ use borrow.Author.Rules.{rules}
 use lib.Dec.{T}
 use lib.Ieee.{binary32, binary64, fits, is_nan, to_bits}
 use lib.Ieee.Fits.{and_i, fits_widens}
-use Rattle.binary32.proofs.Nan.{is_nan, not_nan}
+use Rattle.binary32.proofs.Nan.{is_nan_lem, not_nan}
 use Rattle.screen.proofs.Clipped.{Clipped, clipped-is, clipped-fits}
 use Rattle.screen.proofs.Nearest.{within}
 use Rattle.screen.proofs.Sum.{summed, sum-pattern}
@@ -21,7 +21,7 @@ clipped-requires c κs = search rules
 
 returns : tie.Need-returns
 unfolding screen_byte
-returns c = ap nearest_byte (sym (is_nan _ c.if1.true) ∙ c.before.clipped.ensures)
+returns c = ap nearest_byte (sym (is_nan_lem _ c.if1.true) ∙ c.before.clipped.ensures)
 
 -- that the format holds the sample is told by owning it
 held : (c : tie.After-row-known) → T (fits binary32 c.before.before.clipped.result)

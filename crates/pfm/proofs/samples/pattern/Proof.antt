@@ -2,14 +2,14 @@
 -- By its test.
 use mathlib.Core.Path.{ap, sym}
 use lib.Ieee.{binary32, to_bits}
-use Rattle.binary32.proofs.Nan.{is_nan, not_nan}
+use Rattle.binary32.proofs.Nan.{is_nan_lem, not_nan}
 use borrow.Author.Rules.{rules}
 use Rattle.pfm.proofs.samples.pattern.Statement.{statement}
 use Rattle.pfm.proofs.samples.pattern.Tie as tie
 
 returns : tie.Need-returns
 unfolding to_bits
-returns c = sym (ap (to_bits binary32) (is_nan _ c.if1.true))
+returns c = sym (ap (to_bits binary32) (is_nan_lem _ c.if1.true))
 
 float-to-bits-result : tie.Need-float-to-bits-result
 float-to-bits-result c = not_nan _ c.if1.false
