@@ -1,4 +1,6 @@
 // All codes and all levels: digests of the levels and of the codes that the library answers, and counts. `oracle codes-census` works out the same lines.
+#![tactic(auto)]
+
 use libc::STDOUT_FILENO;
 
 #[derive(Drop)]

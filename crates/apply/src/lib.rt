@@ -1,4 +1,6 @@
 // One op, applied to three lent channels, after `ColorTransformOp::run` of src/convert.rs.
+#![tactic(auto)]
+
 ghost use Rattle.std.specs.Prelude.{◌≡◌};
 ghost use Rattle.channels.specs.Channels.{channels, where_equal};
 ghost use Rattle.channels.specs.Stepping.{step_of};

@@ -1,4 +1,6 @@
 // Reads a plan block, and hands back the rest of the caller's slice.
+#![tactic(auto)]
+
 ghost use Rattle.std.specs.Prelude.{◌≡◌, ◌≤◌, length, drop};
 ghost use Rattle.list.specs.Lists.{Formed};
 ghost use Rattle.block.specs.Block.{paper, refused_by, known_version, right_mark, head_of, op_in, ops_in, listed, end_told, read_of, RestOf};

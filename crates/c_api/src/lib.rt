@@ -1,4 +1,6 @@
 // The library as C functions on numbers and slices.
+#![tactic(auto)]
+
 ghost use Rattle.std.specs.Prelude.{◌≡◌, ◌≤◌, T};
 ghost use Rattle.fused.specs.Fused.{fused};
 ghost use Rattle.cbrt.specs.Root.{is_root, cbrt_of};

@@ -1,4 +1,6 @@
 // Plans and lists as C functions. A list crosses the border as a plan block: the bytes that the writer makes and the reader takes.
+#![tactic(auto)]
+
 ghost use Rattle.std.specs.Prelude.{◌≡◌, length};
 ghost use Rattle.buffer.specs.Buffer.{Listed};
 ghost use Rattle.listing.specs.Listing.{text_of};

@@ -1,4 +1,6 @@
 // The list of a plan block, run on three channels, as a C function.
+#![tactic(auto)]
+
 ghost use Rattle.std.specs.Prelude.{◌≡◌};
 ghost use Rattle.channels.specs.Channels.{channels};
 ghost use Rattle.c_run.specs.BlockRun.{answer_by, answer_of, left_of, told_of};

@@ -1,4 +1,6 @@
 // The executor's steps as C functions on numbers and slices.
+#![tactic(auto)]
+
 ghost use Rattle.std.specs.Prelude.{◌≡◌};
 ghost use Rattle.ciexyz.specs.Matrix.{applied};
 ghost use Rattle.channels.specs.Channels.{channels, each, equally_long, where_equal};

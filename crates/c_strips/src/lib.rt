@@ -1,4 +1,6 @@
 // A run by strips on the list of a plan block, as C functions. The caller lends at each call the block, and two words that are the state of the run.
+#![tactic(auto)]
+
 ghost use Rattle.std.specs.Prelude.{◌≡◌};
 ghost use Rattle.channels.specs.Channels.{channels};
 ghost use Rattle.block.specs.Block.{read_of};

@@ -1,4 +1,6 @@
 // What a C function that runs a list tells its caller, in a lent array of four numbers.
+#![tactic(auto)]
+
 ghost use Rattle.std.specs.Prelude.{◌≡◌};
 ghost use Rattle.c_told.specs.Told.{told_by};
 

@@ -1,4 +1,6 @@
 // The f32 nearest the exact cube root.
+#![tactic(auto)]
+
 mod root;
 mod scale;
 

@@ -1,4 +1,6 @@
 // Three lent channels: whether they are equally long, in which pieces a loop goes over them, and what an op's own step on them answers.
+#![tactic(auto)]
+
 ghost use Rattle.std.specs.Prelude.{◌≡◌, min};
 ghost use Rattle.channels.specs.Channels.{same_lengths};
 ghost use Rattle.channels.specs.Stepping.{paper};

@@ -1,4 +1,6 @@
 // How many samples are infinite or NaN, and what an op's own step reports.
+#![tactic(auto)]
+
 ghost use Rattle.std.specs.Prelude.{◌≡◌, ◌+◌, ◌≤◌, length};
 ghost use Rattle.channels.specs.Channels.{channels};
 ghost use Rattle.counts.specs.Bad.{one_if_bad, bad_in, bad_if, held, count_of, report_of};

@@ -1,4 +1,6 @@
 // Encodings and settings: their ranges, their comparison as named values, equivalence; and the channel count of an ICC profile.
+#![tactic(auto)]
+
 ghost use Rattle.std.specs.Prelude.{◌≡◌};
 ghost use Rattle.encoding.specs.Encodings.{channels_of, is_hdr};
 

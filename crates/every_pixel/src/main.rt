@@ -1,5 +1,7 @@
 // All 2^24 pixels of bytes by each set of weights: from YCbCr to RGB, from RGB to YCbCr, and from RGB there and back, the first byte slowest and the last
 // fastest. Of each channel out, or of how far it moved modulo 256, its digest, and how many are 0 and 255.
+#![tactic(auto)]
+
 use libc::STDOUT_FILENO;
 
 const MODULUS: u64 = 4294967291;

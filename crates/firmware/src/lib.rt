@@ -1,4 +1,6 @@
 // Which weights a camera's firmware means, and what a conversion answers that names one.
+#![tactic(auto)]
+
 ghost use Rattle.std.specs.Prelude.{◌≡◌};
 ghost use Rattle.firmware.specs.Firmware.{known_firmware, weights_of};
 ghost use Rattle.firmware.specs.Conversion.{conversion_of, paper};

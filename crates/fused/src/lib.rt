@@ -1,4 +1,6 @@
 // IEEE 754's fusedMultiplyAdd on f32: the exact product plus addend, rounded once.
+#![tactic(auto)]
+
 mod quick;
 mod round;
 mod shift;

@@ -1,4 +1,6 @@
 // Chroma at half width: widening and narrowing of a byte line.
+#![tactic(auto)]
+
 ghost use Rattle.std.specs.Prelude.{◌*◌, ◌/◌, ◌<◌, ◌≡◌, length};
 ghost use Rattle.half.specs.Twice.{fits_twice};
 ghost use Rattle.half.specs.Widening.{mix_of, output_at};

@@ -1,4 +1,6 @@
 // Joining: one list behind another.
+#![tactic(auto)]
+
 ghost use Rattle.std.specs.Prelude.{◌≡◌, map, ◌≤◌, take};
 ghost use Rattle.list.specs.Lists.{op_of, appended};
 ghost use Rattle.join.specs.Join.{meeting, joinable, verdict_of, join_of};

@@ -1,4 +1,6 @@
 // Whether a list can be run: every refusal of a run that the list alone decides.
+#![tactic(auto)]
+
 ghost use Rattle.std.specs.Prelude.{◌≡◌, map, ◌≤◌, take};
 ghost use Rattle.list.specs.Lists.{op_of};
 ghost use Rattle.judge.specs.Judging.{paper, uncarried_from, judge_of};

@@ -1,4 +1,6 @@
 // Standard input, line by line. No contract can say what is read; that the turns fall is what the program's end rests on.
+#![tactic(auto)]
+
 ghost use Rattle.std.specs.Prelude.{◌≡◌, ◌+◌, ◌≤◌, ◌<◌, length};
 ghost use Rattle.lines.specs.Turns.{Falls, count_of};
 

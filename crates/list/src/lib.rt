@@ -1,4 +1,6 @@
 // Lists of ops: the only place where one is built; and the width check.
+#![tactic(auto)]
+
 ghost use Rattle.std.specs.Prelude.{◌≡◌, [], ◌∷◌, map, ◌≤◌, take};
 ghost use Rattle.list.specs.Ends.{end_from};
 ghost use Rattle.list.specs.Lists.{op_of, end_of, plan_of, well_formed, lawful, appended};

@@ -1,4 +1,6 @@
 // The text of `planlist`: what a plan block holds, or why it is refused, line by line.
+#![tactic(auto)]
+
 ghost use Rattle.std.specs.Prelude.{map, ◌≤◌, ◌<◌, take};
 ghost use Rattle.list.specs.Lists.{op_of, Lawful};
 ghost use Rattle.listing.specs.Listing.{first_line, op_line, op_lines, lines, plan_text, text_of};

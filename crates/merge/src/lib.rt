@@ -1,4 +1,6 @@
 // Merging: each longest run of matrices becomes one.
+#![tactic(auto)]
+
 ghost use Rattle.std.specs.Prelude.{◌≡◌, map, take};
 ghost use Rattle.list.specs.Lists.{op_of, plan_of, Formed, appended};
 ghost use Rattle.merge.specs.Merge.{merge_ops, paper, merge_of};

@@ -1,4 +1,6 @@
 // Encodings and settings as numbers, for a caller who can hand over nothing else.
+#![tactic(auto)]
+
 ghost use Rattle.std.specs.Prelude.{◌≡◌, ◌+◌, ◌<◌};
 ghost use Rattle.numbers.specs.Sides.{natural, natural_at, space_numbered, intent_numbered, white_numbered, primaries_numbered, point_at, in_tables, encoding_in, side_of};
 ghost use Rattle.numbers.specs.Floats.{vec3_at, settings_of};

@@ -1,4 +1,6 @@
 // An op as its parts: its kind, and the values of its fields in the order of a plan block.
+#![tactic(auto)]
+
 mod apart; // apart.rt: an op taken apart
 mod curves; // curves.rt: the numbers of the curves
 mod together; // together.rt: an op put together from its parts

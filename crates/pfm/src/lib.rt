@@ -1,4 +1,6 @@
 // Portable float maps (PFM): the header, and samples from bytes and to bytes; and the pixels of a portable pixmap (PPM).
+#![tactic(auto)]
+
 mod headers;
 mod pixmap;
 mod samples;

@@ -1,4 +1,6 @@
 // Bad input for pictures and plans in words: what was given, and what the library answers.
+#![tactic(auto)]
+
 use libc::STDOUT_FILENO;
 use pfm::Stage;
 

@@ -1,4 +1,6 @@
 // What the programs for pictures share: how large a strip is, how it is read, what they say of a header, and where a picture ends.
+#![tactic(auto)]
+
 ghost use Rattle.std.specs.Prelude.{◌≡◌, ◌+◌, ◌≤◌, ◌<◌, length};
 
 use libc::STDIN_FILENO;

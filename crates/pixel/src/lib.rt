@@ -1,4 +1,6 @@
 // One pixel from YCbCr to RGB, by what the weights make.
+#![tactic(auto)]
+
 ghost use Rattle.std.specs.Prelude.{◌≡◌};
 ghost use Rattle.nearest.specs.Nearest.{byte_of, ⟨◌-◌⟩/◌};
 ghost use Rattle.weights.specs.Rgb.{along, between};

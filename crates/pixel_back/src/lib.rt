@@ -1,4 +1,6 @@
 // One pixel from RGB to YCbCr, by the weights. Nothing leaves 32 bits: a weight has 16, and a byte 8.
+#![tactic(auto)]
+
 ghost use Rattle.std.specs.Prelude.{◌≡◌, ◌≤◌};
 ghost use Rattle.nearest.specs.Nearest.{byte_of};
 ghost use Rattle.luma.specs.Ycbcr.{chroma, lumas, ycbcr_of};

@@ -1,4 +1,6 @@
 // Lent byte channels: whether three in and three out are equally long.
+#![tactic(auto)]
+
 ghost use Rattle.std.specs.Prelude.{◌≡◌};
 ghost use Rattle.planes.specs.Planes.{same_lengths};
 

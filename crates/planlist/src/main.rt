@@ -1,4 +1,6 @@
 // Prints what a plan block on standard input holds, or why it is refused.
+#![tactic(auto)]
+
 use libc::{STDIN_FILENO, STDOUT_FILENO};
 
 // Reads up to 4,096 bytes: no block is longer than 1,192, and what follows one changes nothing that is printed.

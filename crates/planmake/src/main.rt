@@ -1,4 +1,6 @@
 // A plan block from words: a few a line on standard input, the block on standard output.
+#![tactic(auto)]
+
 use libc::{STDERR_FILENO, STDIN_FILENO, STDOUT_FILENO};
 
 // How long the word at the front is: 0 where the text or the line ends there, and at most 40.

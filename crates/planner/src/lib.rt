@@ -1,4 +1,6 @@
 // Planning: from two encodings and the settings to a list, or a refusal.
+#![tactic(auto)]
+
 ghost use Rattle.std.specs.Prelude.{◌≡◌};
 ghost use Rattle.list.specs.Lists.{plan_of};
 ghost use Rattle.encoding.specs.Encodings.{channels_of};

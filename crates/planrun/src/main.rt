@@ -1,4 +1,6 @@
 // Runs the list of a plan block on the picture behind it: both come on standard input, and the picture goes to standard output.
+#![tactic(auto)]
+
 mod picture;
 
 ghost use Rattle.std.specs.Prelude.{◌≡◌, ◌+◌, ◌≤◌, ◌<◌, length};

@@ -1,4 +1,6 @@
 // Shows a picture: a portable float map on standard input, a portable pixmap of screen bytes on standard output.
+#![tactic(auto)]
+
 mod shown;
 mod turned;
 

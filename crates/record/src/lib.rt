@@ -1,5 +1,7 @@
 // Recorded answers as text, a record to a line: words of eight hexadecimal digits in lower case, a single space between two.
 // What the tests read is compared and not proved: the contracts here are those that safety rests on.
+#![tactic(auto)]
+
 ghost use Rattle.std.specs.Prelude.{◌+◌, ◌≤◌, ◌<◌, length};
 
 mod colours; // colours.rt: vectors, matrices, white points, primaries and curves

@@ -1,4 +1,6 @@
 // Recorded answers compared with ours, by the kind of the record, which is its first word.
+#![tactic(auto)]
+
 mod blocks;
 mod byte_channels;
 mod codes;

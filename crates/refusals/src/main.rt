@@ -1,4 +1,6 @@
 // One example of each refusal: what was given, and the number and position that the library answers.
+#![tactic(auto)]
+
 use ciexyz::{Millionths, Primaries, Vec3, WhitePoint};
 use encoding::{ColourEncoding, ColourSpace, EnumColourEncoding, RenderingIntent, Settings};
 use libc::STDOUT_FILENO;

@@ -1,4 +1,6 @@
 // Replays the recorded answers on standard input: of each kind, how many ran and how many differ; and the first that differs.
+#![tactic(auto)]
+
 ghost use Rattle.std.specs.Prelude.{◌<◌};
 
 use libc::STDOUT_FILENO;

@@ -1,4 +1,6 @@
 // RGB to YCbCr over bytes, by the weights that a firmware means.
+#![tactic(auto)]
+
 ghost use Rattle.std.specs.Prelude.{◌≡◌};
 ghost use Rattle.luma.specs.Ycbcr.{ycbcr_of};
 ghost use Rattle.firmware.specs.Firmware.{weights_of};

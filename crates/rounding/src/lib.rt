@@ -1,4 +1,6 @@
 // Laws of rounding to the nearest, and where two roundings are one: definitions and theorems, and the one step of code that rests on them.
+#![tactic(auto)]
+
 ghost use Rattle.std.specs.Prelude.{◌≡◌};
 ghost use Rattle.rounding.specs.Steps.{dropped, sure};
 

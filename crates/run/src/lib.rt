@@ -1,4 +1,6 @@
 // Runs a list of ops on three lent channels.
+#![tactic(auto)]
+
 mod applying;
 mod outcomes;
 mod running;

@@ -1,4 +1,6 @@
 // Whether two lists are the same: start width, count, end width and ops, value by value, floats by their bits with all NaNs as one.
+#![tactic(auto)]
+
 ghost use Rattle.std.specs.Prelude.{◌≡◌, map, take};
 ghost use Rattle.list.specs.Lists.{op_of};
 ghost use Rattle.same.specs.Same.{same_float, same_all, same_curve, same_value, same_cell, same_op, same_list};

@@ -1,4 +1,6 @@
 // What the programs say on standard error. A program has no exit status of its own, so a refusal also puts a byte on descriptor 3, where one is open.
+#![tactic(auto)]
+
 ghost use Rattle.std.specs.Prelude.{◌≤◌};
 
 use libc::STDERR_FILENO;

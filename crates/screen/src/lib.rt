@@ -1,4 +1,6 @@
 // Samples as bytes for a screen.
+#![tactic(auto)]
+
 ghost use Rattle.std.specs.Prelude.{◌≡◌};
 ghost use Rattle.screen.specs.Screen.{screen_byte};
 ghost use Rattle.screen.specs.Showing.{paper, showing_of, shown_of};

@@ -1,4 +1,6 @@
 // sRGB codes of ten bits: the level of a code, and the code of a level.
+#![tactic(auto)]
+
 ghost use Rattle.std.specs.Prelude.{◌≡◌, ◌≤◌};
 ghost use Rattle.srgb10.specs.Codes.{Nearest, code_of, level_of};
 ghost use Rattle.srgb10.specs.Curve.{IsLevel};

@@ -1,4 +1,6 @@
 // A lent slice of ten-bit sRGB codes as linear levels.
+#![tactic(auto)]
+
 ghost use Rattle.std.specs.Prelude.{◌≡◌, false, map, ◌≤◌, length};
 ghost use Rattle.notation.specs.Several.{any};
 ghost use Rattle.srgb10.specs.Curve.{Whole};

@@ -1,4 +1,6 @@
 // The stages of planning, after `with_builder` of src/convert.rs: each appends its ops to a list.
+#![tactic(auto)]
+
 mod conversion;
 mod curve;
 mod decoding;

@@ -1,4 +1,6 @@
 // The steps of a run that are not XYB, after `ColorTransformOp::run` of src/convert.rs.
+#![tactic(auto)]
+
 mod clipping;
 mod curves;
 mod matrices;

@@ -1,4 +1,6 @@
 // A run by strips: it is opened with a list, given strips of three channels, and closed. The caller holds the state.
+#![tactic(auto)]
+
 ghost use Rattle.std.specs.Prelude.{◌≡◌, true};
 ghost use Rattle.channels.specs.Channels.{channels};
 ghost use Rattle.judge.specs.Judging.{judge_of};

@@ -1,4 +1,6 @@
 // The weights of red, green and blue in luma, and what is converted by them.
+#![tactic(auto)]
+
 ghost use Rattle.std.specs.Prelude.{◌≡◌};
 ghost use Rattle.weights.specs.Weights.{t871, bt709};
 

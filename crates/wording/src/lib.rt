@@ -1,4 +1,6 @@
 // What a plan is wanted for, in words: a few on a line.
+#![tactic(auto)]
+
 mod decimal;
 mod filling;
 mod places;

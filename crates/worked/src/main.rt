@@ -1,4 +1,6 @@
 // A picture from encodings to samples, and the specification's worked cases of plans that `readings` does not compute, executed.
+#![tactic(auto)]
+
 use ciexyz::{Mat3, Millionths, Primaries, Vec3, WhitePoint};
 use encoding::{ColourEncoding, ColourSpace, EnumColourEncoding, RenderingIntent, Settings};
 use libc::STDOUT_FILENO;

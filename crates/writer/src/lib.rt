@@ -1,4 +1,6 @@
 // Writes a list as a plan block into a lent buffer.
+#![tactic(auto)]
+
 ghost use Rattle.std.specs.Prelude.{◌≡◌, length};
 ghost use Rattle.writer.specs.Writing.{paper, length_of, writing_of, left_of};
 

@@ -1,4 +1,6 @@
 // The inversion of XYB, after src/xyb.rs: X, Y, B samples become mixed L, M, S.
+#![tactic(auto)]
+
 mod cube;
 mod losses;
 mod piece;

@@ -1,4 +1,6 @@
 // YCbCr to RGB, after src/ycbcr.rs, by the weights that a firmware means.
+#![tactic(auto)]
+
 mod one_pixel;
 mod piece;
 mod window;

@@ -1,4 +1,6 @@
 // YCbCr to RGB over bytes, by the weights that a firmware means.
+#![tactic(auto)]
+
 ghost use Rattle.std.specs.Prelude.{◌≡◌};
 ghost use Rattle.weights.specs.Rgb.{rgb_of};
 ghost use Rattle.firmware.specs.Firmware.{weights_of};
