@@ -3,7 +3,7 @@
 
 use libc::STDOUT_FILENO;
 
-#[derive(Drop)]
+#[derive(Clone, Copy)]
 struct Tally {
     // Digests: of the levels of the codes, and of the codes of the levels.
     levels: u64,

@@ -17,7 +17,7 @@ pub const MARK: [u8; 3] = [b'C', b'T', b'P'];
 const HEAD: usize = 7;
 
 // What reading answers.
-#[derive(Drop)]
+#[derive(Clone, Copy)]
 pub enum Reading {
     Done,
     // 7: the block ends early.
@@ -31,7 +31,7 @@ pub enum Reading {
 }
 
 // What was read: the version, the list, and how many bytes the block takes; 0, the empty list and none where reading is refused.
-#[derive(Drop)]
+#[derive(Clone, Copy)]
 pub struct Block {
     pub answer: Reading,
     pub version: u16,
@@ -40,7 +40,7 @@ pub struct Block {
 }
 
 // An op and the bytes that it takes, or a refusal.
-#[derive(Drop)]
+#[derive(Clone, Copy)]
 enum Found {
     Whole { op: Op, size: usize },
     Refused(Reading),

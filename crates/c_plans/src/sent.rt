@@ -6,7 +6,7 @@ use list::Plan;
 use writer::Writing;
 
 // The number, the length used, and the widths; zeros behind the number of a refusal.
-#[derive(Drop)]
+#[derive(Clone, Copy)]
 pub(crate) struct Sent {
     pub number: u8,
     pub length: usize,

@@ -2,7 +2,7 @@
 -- The cube of 2 * y is 8 * y ^ 3, and that of 2 * y + 1 is more by the trial; a three more makes eight times the digits taken in, and the three.
 use mathlib.Core.Path.{ap, refl, subst, sym, ◌∙◌, ◌≡◌}
 use Prim.Native.Nat.{◌%◌, ◌*◌, ◌+◌, ◌-◌, ◌/◌, ◌<◌, ◌^◌, suc, zero, ℕ, ◌≤◌}
-use native.Mathlib.Nat.{add-mul, div-one, mod-eq_of_lt, mul_add, mul_assoc, mul-div-mul_right, mul-le-mul, mul-le-mul_left, mul_left_comm, mul_right_comm, pow-suc}
+use native.Mathlib.Nat.{add-mul, div-one, mod-eq_of_lt, mul-add, mul_assoc, mul-div-mul_right, mul-le-mul, mul-le-mul_left, mul_left_comm, mul_right_comm, pow-suc}
 use native.Mathlib.Omega.{arith}
 use lib.Pow.{pow-add}
 use Rattle.cbrt.proofs.Cubes.{cube-lt}
@@ -11,7 +11,7 @@ use Rattle.cbrt.specs.Steps.{Whiteboard, WholeRoot, taken_in}
 
 -- ---- squares and cubes of a number with one digit more
 cube-suc : (y : ℕ) → cube (y + 1) ≡ cube y + 3 * (y * y) + 3 * y + 1
-cube-suc y = simp (mul_add, add-mul) (omega arith)
+cube-suc y = simp (mul-add, add-mul) (omega arith)
 
 cube-even : (y : ℕ) → cube (2 * y) ≡ 8 * cube y
 cube-even y = simp (mul_assoc, mul_left_comm) (omega arith)
@@ -20,7 +20,7 @@ square_even : (y : ℕ) → 2 * y * (2 * y) ≡ 4 * (y * y)
 square_even y = simp (mul_assoc, mul_left_comm) (omega arith)
 
 square_odd : (y : ℕ) → (2 * y + 1) * (2 * y + 1) ≡ 4 * (y * y) + 4 * y + 1
-square_odd y = simp (mul_add, add-mul) (omega (arith, square_even y))
+square_odd y = simp (mul-add, add-mul) (omega (arith, square_even y))
 
 cube-odd : (y : ℕ) → cube (2 * y + 1) ≡ 8 * cube y + 12 * (y * y) + 6 * y + 1
 cube-odd y = omega (arith, cube-suc (2 * y), cube-even y, square_even y)

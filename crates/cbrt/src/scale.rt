@@ -3,7 +3,7 @@ ghost use Rattle.std.specs.Prelude.{◌*◌, ◌^◌, ◌<◌, ◌≤◌};
 ghost use Rattle.cbrt.specs.Steps.{Scaled};
 
 // g * 8 ^ a / 2 ^ 25 units, with g from 2 ^ 24 up to 2 ^ 27.
-#[derive(Drop)]
+#[derive(Clone, Copy)]
 pub(crate) struct Size {
     pub g: u64,
     pub a: u64,

@@ -8,7 +8,7 @@ ghost use Rattle.channels.specs.Stepping.{paper};
 use notation::Answer;
 
 // What an op's own step answers.
-#[derive(Drop)]
+#[derive(Clone, Copy)]
 pub enum Stepping {
     // The op gives this width.
     Done { width: u8 },

@@ -8,7 +8,7 @@ ghost use Rattle.counts.specs.Bad.{one_if_bad, bad_in, bad_if, held, count_of, r
 use channels::Stepping;
 
 // What an op's own step answers, and how many samples it left bad within the width that it gives.
-#[derive(Drop)]
+#[derive(Clone, Copy)]
 pub struct Stepped {
     pub answer: Stepping,
     pub bad: u64,

@@ -5,7 +5,7 @@ ghost use Rattle.encoding.specs.Custom.{custom_white, custom_corners};
 use ciexyz::{Millionths, Primaries, WhitePoint};
 
 // The points of three custom primaries.
-#[derive(Drop)]
+#[derive(Clone, Copy)]
 pub struct Corners {
     pub red: Millionths,
     pub green: Millionths,

@@ -15,7 +15,7 @@ pub use named::{is_equivalent, same_colour_space, same_intent, same_primaries, s
 use op::Curve;
 pub use ranges::in_range;
 
-#[derive(Drop)]
+#[derive(Clone, Copy)]
 pub enum ColourSpace {
     Rgb,
     Grey,
@@ -23,7 +23,7 @@ pub enum ColourSpace {
     Unknown,
 }
 
-#[derive(Drop)]
+#[derive(Clone, Copy)]
 pub enum RenderingIntent {
     Perceptual,
     Relative,
@@ -31,7 +31,7 @@ pub enum RenderingIntent {
     Absolute,
 }
 
-#[derive(Drop)]
+#[derive(Clone, Copy)]
 pub struct EnumColourEncoding {
     pub colour_space: ColourSpace,
     pub white_point: WhitePoint,
@@ -40,14 +40,14 @@ pub struct EnumColourEncoding {
     pub rendering_intent: RenderingIntent,
 }
 
-#[derive(Drop)]
+#[derive(Clone, Copy)]
 pub enum ColourEncoding {
     IccProfile,
     Enum(EnumColourEncoding),
 }
 
 // The inverse opsin matrix and its biases, the Rust's ToneMapping, and the flags of its builder.
-#[derive(Drop)]
+#[derive(Clone, Copy)]
 pub struct Settings {
     pub inv_mat: Mat3,
     pub opsin_bias: Vec3,

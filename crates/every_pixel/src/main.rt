@@ -6,21 +6,21 @@ use libc::STDOUT_FILENO;
 
 const MODULUS: u64 = 4294967291;
 
-#[derive(Drop)]
+#[derive(Clone, Copy)]
 struct Tally {
     digest: u64,
     zeros: u64,
     full: u64,
 }
 
-#[derive(Drop)]
+#[derive(Clone, Copy)]
 struct Tallies {
     a: Tally,
     b: Tally,
     c: Tally,
 }
 
-#[derive(Drop)]
+#[derive(Clone, Copy)]
 enum Way {
     ToRgb,
     ToYcbcr,

@@ -9,7 +9,7 @@ use notation::Answer;
 use weights::Weights;
 
 // What a conversion answers.
-#[derive(Drop)]
+#[derive(Clone, Copy)]
 pub enum Conversion {
     Done,
     // Refusal 13: no such firmware, and nothing was changed.

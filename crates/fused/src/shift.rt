@@ -4,7 +4,7 @@ ghost use Rattle.std.specs.Float.Ieee.Nearest.{closest};
 ghost use Rattle.fused.specs.Steps.{Topped, Jammed};
 
 // m * 2 ^ e
-#[derive(Drop)]
+#[derive(Clone, Copy)]
 pub(crate) struct Num {
     pub m: u64,
     pub e: u64,

@@ -11,7 +11,7 @@ ghost use Rattle.half.specs.Fitting.{narrowed_into, narrowing, paper, widened_in
 use notation::Answer;
 
 // What widening or narrowing answers.
-#[derive(Drop)]
+#[derive(Clone, Copy)]
 pub enum Fitting {
     Done,
     // Refusal 4: the lent lengths do not fit, and nothing was changed.

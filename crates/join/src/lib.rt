@@ -8,7 +8,7 @@ ghost use Rattle.join.specs.Join.{meeting, joinable, verdict_of, join_of};
 use list::{Plan, Slot, Verdict};
 
 // What joining answers; the list of a refused join is the empty list with width 0.
-#[derive(Drop)]
+#[derive(Clone, Copy)]
 pub struct Joined {
     pub answer: Verdict,
     pub plan: Plan,

@@ -9,7 +9,7 @@ use list::{Plan, Slot, Verdict};
 use notation::Answer;
 
 // What is judged of a list.
-#[derive(Drop)]
+#[derive(Clone, Copy)]
 pub enum Judgement {
     // A run of it ends at this width.
     Ready { width: u8 },
@@ -22,7 +22,7 @@ pub enum Judgement {
 }
 
 // Where the first op stands that is not carried.
-#[derive(Drop)]
+#[derive(Clone, Copy)]
 pub enum Uncarried {
     At { position: usize },
     Nowhere,

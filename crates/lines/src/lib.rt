@@ -8,7 +8,7 @@ use libc::STDIN_FILENO;
 
 // How far a program is with its input: the line in hand, if it has one, is the bytes from start to end of its buffer, and
 // those from next to filled are read and not yet handed out.
-#[derive(Drop)]
+#[derive(Clone, Copy)]
 pub struct Progress {
     pub has_line: bool,
     pub start: usize,
@@ -94,7 +94,7 @@ fn next_in(buf: &mut [u8], p: Progress) -> Progress
 }
 
 // What a read brings.
-#[derive(Drop)]
+#[derive(Clone, Copy)]
 enum Input {
     Bytes(usize),
     End,

@@ -10,13 +10,13 @@ mod checking; // checking.rt: the width check
 pub use checking::{check, paper};
 use op::Op;
 
-#[derive(Drop)]
+#[derive(Clone, Copy)]
 pub struct Slot {
     pub op: Op,
 }
 
 // A list: a start width, a count, the width that it ends at, and room for thirty-two ops.
-#[derive(Drop)]
+#[derive(Clone, Copy)]
 pub struct Plan {
     pub start: u8,
     pub count: usize,
@@ -25,7 +25,7 @@ pub struct Plan {
 }
 
 // What the width check says of a list.
-#[derive(Drop)]
+#[derive(Clone, Copy)]
 pub enum Verdict {
     // The list ends at this width.
     Passes { width: u8 },

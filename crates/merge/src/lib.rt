@@ -12,7 +12,7 @@ use notation::Answer;
 use op::Op;
 
 // What merging answers.
-#[derive(Drop)]
+#[derive(Clone, Copy)]
 pub enum Merging {
     Done,
     // Refusal 10: the start width is not 1 or 3, the count is above 32, or the end width is false.
@@ -20,14 +20,14 @@ pub enum Merging {
 }
 
 // A refused list is the empty list with width 0.
-#[derive(Drop)]
+#[derive(Clone, Copy)]
 pub struct Merged {
     pub answer: Merging,
     pub plan: Plan,
 }
 
 // The product of the matrices just before an op.
-#[derive(Drop)]
+#[derive(Clone, Copy)]
 enum Run {
     Empty,
     Product(Mat3),

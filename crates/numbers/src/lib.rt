@@ -9,7 +9,7 @@ use ciexyz::{Millionths, Primaries, Vec3, WhitePoint};
 use encoding::{ColourEncoding, ColourSpace, EnumColourEncoding, RenderingIntent, Settings};
 
 // What fourteen numbers mean.
-#[derive(Drop)]
+#[derive(Clone, Copy)]
 pub enum Side {
     Means(ColourEncoding),
     // A number stands in none of the tables.

@@ -11,18 +11,18 @@ use op::Curve;
 pub use together::op_by;
 
 // What stands in a field.
-#[derive(Drop)]
+#[derive(Clone, Copy)]
 pub enum Value {
     Float(f32),
     Flag(bool),
     Curve(Curve),
 }
 
-#[derive(Drop)]
+#[derive(Clone, Copy)]
 pub struct Cell(pub Value);
 
 // The kind of an op and its values, nine at most; the cells past the count hold zero.
-#[derive(Drop)]
+#[derive(Clone, Copy)]
 pub struct Parts {
     pub kind: u8,
     pub count: usize,

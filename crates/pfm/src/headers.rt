@@ -3,7 +3,7 @@ ghost use Rattle.std.specs.Prelude.{◌≡◌};
 ghost use Rattle.pfm.specs.Header.{is_digit, is_space, space_by, size_by, on_start, on_kind, on_marked, on_width, on_height, on_scale, on_whole, on_sign, step_of, begun, header_of};
 
 // Where the reading is.
-#[derive(Drop)]
+#[derive(Clone, Copy)]
 pub enum Stage {
     // Before the P.
     Start,
@@ -28,7 +28,7 @@ pub enum Stage {
 }
 
 // What the header says, as far as it was read.
-#[derive(Drop)]
+#[derive(Clone, Copy)]
 pub struct Numbers {
     // 3, or 1.
     pub channels: u8,
@@ -44,14 +44,14 @@ pub struct Numbers {
     pub used: usize,
 }
 
-#[derive(Drop)]
+#[derive(Clone, Copy)]
 pub struct Header {
     pub stage: Stage,
     pub numbers: Numbers,
 }
 
 // What a byte makes of a number that is read digit by digit.
-#[derive(Drop)]
+#[derive(Clone, Copy)]
 enum Size {
     Grows(u32),
     Waits,

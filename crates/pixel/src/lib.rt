@@ -10,7 +10,7 @@ ghost use Rattle.pixel.specs.Steps.{Fits, Scaled};
 use weights::{Pixel, Weights};
 
 // The products of the weights, worked out once for a channel.
-#[derive(Drop)]
+#[derive(Clone, Copy)]
 pub struct Factors {
     // N
     n: u32,

@@ -11,7 +11,7 @@ use encoding::{ColourEncoding, ColourSpace, EnumColourEncoding, Settings};
 use list::Plan;
 use notation::Answer;
 
-#[derive(Drop)]
+#[derive(Clone, Copy)]
 pub enum Planning {
     Done,
     // Refusal 1: either side is ICC.
@@ -25,7 +25,7 @@ pub enum Planning {
 }
 
 // A refused plan is the empty list with width 0.
-#[derive(Drop)]
+#[derive(Clone, Copy)]
 pub struct Planned {
     pub answer: Planning,
     pub plan: Plan,

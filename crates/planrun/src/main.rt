@@ -24,7 +24,7 @@ fn channels_refused(start: u8) {
 }
 
 // How far the picture is: the run, how many bytes the input holds at its front, how many pixels are left, and that nothing was refused.
-#[derive(Drop)]
+#[derive(Clone, Copy)]
 struct Progress {
     state: State,
     held: usize,

@@ -6,7 +6,7 @@ use pfm::Numbers;
 use strips::State;
 
 // The run after a strip, and whether the strip was written.
-#[derive(Drop)]
+#[derive(Clone, Copy)]
 pub(crate) struct Stripped {
     pub(crate) state: State,
     pub(crate) written: bool,

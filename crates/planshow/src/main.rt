@@ -10,7 +10,7 @@ use libc::STDOUT_FILENO;
 use pfm::Numbers;
 
 // How far the picture is: how many bytes the input holds at its front, how many pixels are left, and that nothing was refused.
-#[derive(Drop)]
+#[derive(Clone, Copy)]
 struct Progress {
     held: usize,
     left: u64,

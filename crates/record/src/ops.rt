@@ -7,7 +7,7 @@ use op::Op;
 use parts::{Cell, Value};
 
 // A list, and the number of the word after it, which is 0 where no list stands there.
-#[derive(Drop)]
+#[derive(Clone, Copy)]
 pub struct Found {
     pub list: Plan,
     pub next: usize,

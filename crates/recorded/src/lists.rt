@@ -28,7 +28,7 @@ pub(crate) fn same_merged(words: &[u8]) -> bool {
 }
 
 // What a run ended with: 01's answer, and how many samples went bad.
-#[derive(Drop)]
+#[derive(Clone, Copy)]
 pub struct Reached {
     pub answer: Answer,
     pub bad: u64,

@@ -8,7 +8,7 @@ use libc::STDOUT_FILENO;
 const KINDS: usize = 32;
 
 // The counts by kind, where 0 stands for a line that is no record of a known kind.
-#[derive(Drop)]
+#[derive(Clone, Copy)]
 struct Tally {
     ran: [u64; KINDS],
     differ: [u64; KINDS],

@@ -1,6 +1,6 @@
 -- What rounding a product of two f32 loses, by the products of their parts of twelve digits.
 -- Each of these is exact, and so is each sum of them, since what is taken away first is near to all that is added after it: the remainder is always of 24 digits.
-use Rattle.std.proofs.Common.{◌≡◌, ℕ, ◌+◌, ◌-◌, ◌*◌, ◌/◌, ◌%◌, ◌^◌, ◌<◌, ◌≤◌, Bool, true, false, sym, refl, ap, ◌∙◌, subst, inl, inr, lt_of_lt_of_le, mul_assoc, add-mul, mul-le-mul, mul-one, mul_add, mul_right_comm, arith, pow_mono, pow-add, shl_lt}
+use Rattle.std.proofs.Common.{◌≡◌, ℕ, ◌+◌, ◌-◌, ◌*◌, ◌/◌, ◌%◌, ◌^◌, ◌<◌, ◌≤◌, Bool, true, false, sym, refl, ap, ◌∙◌, subst, inl, inr, lt_of_lt_of_le, mul_assoc, add-mul, mul-le-mul, mul-one, mul-add, mul_right_comm, arith, pow_mono, pow-add, shl_lt}
 use native.Mathlib.Nat.{mul-mul-mul_comm}
 use lib.Ieee.{Float, add, binary32, mul, neg, of_bits, sub, to_bits, units}
 use lib.Ieee.Exact.{HasValue, units_val}
@@ -55,8 +55,8 @@ part-le p q a b = mul-le-mul (under p a) (under q b)
 expand : (p q r s : ℕ) → (p * 0x1000 + q) * (r * 0x1000 + s) ≡ p * r * 0x100_0000 + p * s * 0x1000 + (q * r * 0x1000 + q * s)
 expand p q r s =
     add-mul (p * 0x1000) q (r * 0x1000 + s)
-    ∙ ap (λ (x : ℕ). x + q * (r * 0x1000 + s)) (mul_add (p * 0x1000) (r * 0x1000) s ∙ ap (λ (x : ℕ). x + p * 0x1000 * s) (mul-mul-mul_comm p 0x1000 r 0x1000) ∙ ap (λ (x : ℕ). p * r * 0x100_0000 + x) (mul_right_comm p 0x1000 s))
-    ∙ ap (λ (x : ℕ). p * r * 0x100_0000 + p * s * 0x1000 + x) (mul_add q (r * 0x1000) s ∙ ap (λ (x : ℕ). x + q * s) (sym (mul_assoc q r 0x1000)))
+    ∙ ap (λ (x : ℕ). x + q * (r * 0x1000 + s)) (mul-add (p * 0x1000) (r * 0x1000) s ∙ ap (λ (x : ℕ). x + p * 0x1000 * s) (mul-mul-mul_comm p 0x1000 r 0x1000) ∙ ap (λ (x : ℕ). p * r * 0x100_0000 + x) (mul_right_comm p 0x1000 s))
+    ∙ ap (λ (x : ℕ). p * r * 0x100_0000 + p * s * 0x1000 + x) (mul-add q (r * 0x1000) s ∙ ap (λ (x : ℕ). x + q * s) (sym (mul_assoc q r 0x1000)))
 
 product-of : (x y : Float) (n k i j F m : ℕ) → HasValue x false (n * 2 ^ i) (2 ^ 149) → HasValue y false (k * 2 ^ j) (2 ^ 149) → n * k ≡ F * 2 ^ m → F ≤ 0x100_0000 → 149 ≤ i + j → i + j + m < 400 → Firm (i + j) (mul binary32 x y) (F * 2 ^ m) 0
 product-of x y n k i j F m p q e f l u = exactly F m (subst (λ (z : ℕ). Once (i + j) (mul binary32 x y) z 0) e (times x y n k i j p q)) (inl (omega arith)) f l u

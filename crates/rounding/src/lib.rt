@@ -5,7 +5,7 @@ ghost use Rattle.std.specs.Prelude.{◌≡◌};
 ghost use Rattle.rounding.specs.Steps.{dropped, sure};
 
 // The pattern of an f64 rounded to 24 digits, and whether that is sure: it was not half way.
-#[derive(Drop)]
+#[derive(Clone, Copy)]
 pub struct Narrow {
     pub pattern: u64,
     pub sure: bool,

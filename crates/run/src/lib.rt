@@ -14,7 +14,7 @@ use list::Plan;
 pub use outcomes::paper;
 
 // What a run answers.
-#[derive(Drop)]
+#[derive(Clone, Copy)]
 pub enum Outcome {
     // It reached the end, at this width.
     Done { width: u8 },
@@ -29,7 +29,7 @@ pub enum Outcome {
 }
 
 // What a run answers, and how many samples it left bad.
-#[derive(Drop)]
+#[derive(Clone, Copy)]
 pub struct Ran {
     pub outcome: Outcome,
     pub bad: u64,

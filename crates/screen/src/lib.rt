@@ -8,7 +8,7 @@ ghost use Rattle.screen.specs.Showing.{paper, showing_of, shown_of};
 use notation::Answer;
 
 // What the conversion of a slice of samples answers.
-#[derive(Drop)]
+#[derive(Clone, Copy)]
 pub enum Showing {
     Done,
     // Refusal 4: there are not as many bytes as samples, and nothing was changed.

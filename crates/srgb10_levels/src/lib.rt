@@ -10,7 +10,7 @@ ghost use Rattle.srgb10_levels.specs.Levels.{divided_level};
 use notation::Answer;
 
 // What the conversion of a slice of codes answers.
-#[derive(Drop)]
+#[derive(Clone, Copy)]
 pub enum Levelling {
     Done,
     // Refusal 4: there are not as many levels as codes, and nothing was written.

@@ -12,14 +12,14 @@ use notation::Answer;
 use run::Outcome;
 
 // A run is open with this list where it can be run; a list that cannot is no open run. So many samples of its strips went bad.
-#[derive(Drop)]
+#[derive(Clone, Copy)]
 pub struct State {
     pub plan: Plan,
     pub bad: u64,
 }
 
 // What a strip and a close answer.
-#[derive(Drop)]
+#[derive(Clone, Copy)]
 pub enum Stripping {
     // The run ends at this width.
     Done { width: u8 },
@@ -29,14 +29,14 @@ pub enum Stripping {
     Unequal,
 }
 
-#[derive(Drop)]
+#[derive(Clone, Copy)]
 pub struct Opened {
     pub answer: Judgement,
     pub state: State,
 }
 
 // Of a strip its own count of bad samples, of a close the sum.
-#[derive(Drop)]
+#[derive(Clone, Copy)]
 pub struct Stripped {
     pub answer: Stripping,
     pub bad: u64,

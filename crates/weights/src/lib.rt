@@ -5,7 +5,7 @@ ghost use Rattle.std.specs.Prelude.{◌≡◌};
 ghost use Rattle.weights.specs.Weights.{t871, bt709};
 
 // Red weighs kr/N, green kg/N and blue kb/N, with N = kr + kg + kb.
-#[derive(Drop)]
+#[derive(Clone, Copy)]
 pub struct Weights {
     pub kr: u16,
     pub kg: u16,
@@ -13,7 +13,7 @@ pub struct Weights {
 }
 
 // Cb, Y, Cr or R, G, B, in this order.
-#[derive(Drop)]
+#[derive(Clone, Copy)]
 pub struct Pixel {
     pub c0: u8,
     pub c1: u8,

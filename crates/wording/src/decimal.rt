@@ -3,7 +3,7 @@ ghost use Rattle.std.specs.Prelude.{◌≡◌, ℕ, ◌<◌, drop};
 ghost use Rattle.wording.specs.Decimal.{digits, negative, whole, signed};
 ghost use Rattle.wording.specs.declared.decimal.Number.TheVariants.{Is};
 
-#[derive(Drop)]
+#[derive(Clone, Copy)]
 pub(crate) enum Number {
     // A negative one stands as 2^31 and its size.
     Is(u32),

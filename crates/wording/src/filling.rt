@@ -10,7 +10,7 @@ const UNSET: u32 = 0xffff_ffff;
 
 const NONE: usize = 33;
 
-#[derive(Drop)]
+#[derive(Clone, Copy)]
 pub struct Filling {
     // 0 to 13 the source's, 14 to 27 the target's, then intensity, min_nits, version, detect_peak and from_pq.
     pub numbers: [u32; 33],

@@ -11,7 +11,7 @@ use op::Op;
 use parts::{Cell, Value};
 
 // What an op is refused for.
-#[derive(Drop)]
+#[derive(Clone, Copy)]
 pub(crate) enum Fault {
     BadFields,
     RetiredCurve,

@@ -15,7 +15,7 @@ use notation::Answer;
 pub const LONGEST: usize = 1192;
 
 // What writing answers.
-#[derive(Drop)]
+#[derive(Clone, Copy)]
 pub enum Writing {
     // So many bytes are written.
     Done { length: usize },

@@ -16,7 +16,7 @@ use firmware::Conversion;
 use weights::Weights;
 
 // What Cb and Cr are multiplied by, worked out once for a channel.
-#[derive(Drop)]
+#[derive(Clone, Copy)]
 struct Constants {
     // of Cr, for red
     red: f32,

@@ -29,7 +29,7 @@ fn is_ready(cbycr: Vec3) -> bool
 }
 
 // R, G, B, and whether they are sure.
-#[derive(Drop)]
+#[derive(Clone, Copy)]
 pub(crate) struct Worked {
     pub(crate) red: f32,
     pub(crate) green: f32,
