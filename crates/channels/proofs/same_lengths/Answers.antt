@@ -1,0 +1,10 @@
+-- `same_lengths` tells whether three lengths are equal.
+-- Each return rewrites with the tests that led there.
+use borrow.Author.Tests.{eq-eqb, ne_eqb}
+use Rattle.channels.proofs.same_lengths.Goals as goal
+
+pub returns-then-a-b : goal.returns-then-a-b
+returns-then-a-b c = rw (eq-eqb _ _ c.if-a-b.true)
+
+pub returns : goal.returns
+returns c = rw (ne_eqb _ _ c.if-a-b.false)
