@@ -2,7 +2,6 @@
 -- and the arm of a transfer function answers what its curve does.
 use mathlib.Core.Path.{ap, sym, ◌∙◌}
 use Rattle.op.specs.Widths.{carried_of}
-use borrow.Author.Rules.{rules}
 use Rattle.op.proofs.widths.carried.Goals as goal
 
 pub returns-in-TransferFunction : goal.returns-in-TransferFunction

@@ -1,6 +1,5 @@
 -- `op::widths::fits` meets its contract.
 -- The op's need says it.
-use borrow.Author.Rules.{rules}
 use Rattle.op.proofs.widths.fits.Goals as goal
 
 pub returns-in-Exactly : goal.returns-in-Exactly

@@ -1,6 +1,5 @@
 -- `op::widths::needs` meets its contract.
 -- The op's row says it.
-use borrow.Author.Rules.{rules}
 use Rattle.op.proofs.widths.needs.Goals as goal
 
 pub returns-in-Fixed : goal.returns-in-Fixed
