@@ -1,6 +1,5 @@
 -- `paper` gives 01's answer for each case.
 -- Each arm rewrites with the case that it took.
-use borrow.Author.Rules.{rules}
 use Rattle.channels.proofs.paper.Goals as goal
 
 pub returns-in-Done : goal.returns-in-Done
