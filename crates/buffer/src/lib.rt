@@ -15,5 +15,7 @@ pub fn put(out: &mut [u8], at: usize, text: &[u8]) -> usize
     if out.len() - at < text.len() {
         return at;
     }
-    at + bytes::copy(text, &mut out[at..])
+    let end = at + text.len();
+    out[at..end].copy_from_slice(text);
+    end
 }
