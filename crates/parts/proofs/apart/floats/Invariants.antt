@@ -1,0 +1,20 @@
+-- `apart::floats` meets its contract.
+-- The zeros are rewritten by the floats, cell by cell.
+use Prim.Native.Nat.{◌-◌}
+use mathlib.Core.Path.{◌≡◌, sym, ap}
+use mathlib.Core.List.{List, map}
+use native.Mathlib.Omega.{arith}
+use borrow.Author.Rules.{rules}
+use lib.Ieee.{nan}
+use lib.ListN.{length}
+use Rattle.notation.proofs.Elements.{map_at}
+use Rattle.notation.proofs.Rewriting.{Rewritten, map-begun, write, ended}
+use Rattle.parts.specs.Parts.{float_cell}
+use Rattle.parts.specs.declared.Cell.{Cell}
+use Rattle.parts.proofs.apart.floats.Given as goal
+
+abbrev pub invariant-loop-i : goal.invariant-loop-i
+invariant-loop-i l = (length l.f ≡ 9) × Rewritten (map float_cell l.f) l.initial.cells l.i l.cells
+
+abbrev pub decreases-loop-i : goal.decreases-loop-i
+decreases-loop-i l = 9 - l.i
