@@ -1,7 +1,6 @@
 -- `mul_add`'s contract determines its answer.
 -- The answer is said to equal one value, so two answers are equal.
 use mathlib.Core.Path.{sym, ◌∙◌}
-use native.Mathlib.Nat.{mul-add}
 use Rattle.notation.proofs.Determines.{Determines}
 use Rattle.fused.proofs.mul_add.Reads as mul-add
 use Rattle.fused.proofs.mul_add.Kinds as mul_add_kinds

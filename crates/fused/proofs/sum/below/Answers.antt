@@ -7,8 +7,7 @@ use native.Mathlib.Omega.{arith}
 use borrow.Author.Tests.{ltb-false, ltb-true}
 use lib.Dec.{ltb}
 use Rattle.fused.specs.Steps.{Under}
-use Rattle.fused.proofs.sum.below.Statement.{statement}
-use Rattle.fused.proofs.sum.below.Tie as tie
+use Rattle.fused.proofs.sum.below.Goals as goal
 
 by_digits : (m n e f : ℕ) → e ≡ f → (b : Bool) → b ≡ ltb m n → cond b (Under m e n f) (Under n f m e)
 by_digits m n e f h true p = (omega arith, λ _. omega (arith, ltb-true m n (sym p)))
@@ -18,15 +17,12 @@ by-exponents : (m n e f : ℕ) → (e ≡ f → ⊥) → (b : Bool) → b ≡ lt
 by-exponents m n e f h true p = let l = ltb-true e f (sym p) in (omega arith, λ g. absurd (h g))
 by-exponents m n e f h false p = let l = ltb-false e f (sym p) in (omega arith, λ g. absurd (h (sym g)))
 
-returns : tie.Need-returns
-returns c =
+pub returns-then-x-y : goal.returns-then-x-y
+returns-then-x-y c =
     let z = c.before.before.before.before.before in
-    by_digits z.args.x.m z.args.y.m _ _ c.before.before.if1.true _ refl
+    by_digits z.args.x.m z.args.y.m _ _ c.if-x-y.true _ refl
 
-returns-2 : tie.Need-returns-2
-returns-2 c =
+pub returns-else-x-y : goal.returns-else-x-y
+returns-else-x-y c =
     let z = c.before.before.before.before.before in
-    by-exponents z.args.x.m z.args.y.m _ _ c.before.before.if1.false _ refl
-
-pub below-spec : {M : Type 1} → statement M
-below-spec = tie.close (tie.spec returns returns-2)
+    by-exponents z.args.x.m z.args.y.m _ _ c.if-x-y.false _ refl
