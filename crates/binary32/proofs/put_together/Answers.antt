@@ -3,7 +3,6 @@
 use mathlib.Core.Path.{sym, ap, ◌∙◌}
 use mathlib.Core.Bool.{true, false}
 use native.Mathlib.Nat.{zero-add}
-use borrow.Author.Rules.{rules}
 use borrow.Author.Tests.{lt-leb}
 use lib.Ieee.{binary32, of_bits, div}
 use Rattle.binary32.proofs.Pattern.{no_nan, with_sign-is}

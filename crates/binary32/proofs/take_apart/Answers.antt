@@ -2,14 +2,12 @@
 -- Each way through the fields of the pattern is a law of `Fields`.
 use mathlib.Core.Path.{sym, ap, subst}
 use native.Mathlib.Nat.{lt_of_lt_of_le}
-use borrow.Author.Rules.{rules}
 use lib.Dec.{T, lit≤}
-use lib.Ieee.{binary32, fits}
+use lib.Ieee.{binary32}
 use lib.Ieee.Bits.{to_bits-lt}
 use Rattle.binary32.specs.Parts.{parts_of}
 use Rattle.binary32.proofs.Nan.{is_nan_lem, not_nan}
 use Rattle.binary32.proofs.Fields.{all_ones, no_leading_digit, leading_digit}
-use Rattle.binary32.proofs.take_apart.Tie as tie
 use Rattle.binary32.proofs.take_apart.Goals as goal
 
 pub returns-then-x : goal.returns-then-x

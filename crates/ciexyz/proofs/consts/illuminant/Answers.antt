@@ -1,6 +1,5 @@
 -- `illuminant` answers `illuminant_of`.
 -- Each arm knows its case of the white point. For E both sides are computed: the code's constant is folded, the spec divides.
-use Rattle.std.proofs.Common.{rules}
 use lib.Ieee.{div, of_bits}
 use Rattle.ciexyz.proofs.consts.illuminant.Goals as goal
 

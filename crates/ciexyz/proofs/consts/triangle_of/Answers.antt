@@ -1,6 +1,5 @@
 -- `triangle_of` answers `triangle_points`.
 -- Each arm knows its case of the primaries, and each call's result stands for its meaning.
-use Rattle.std.proofs.Common.{rules}
 use Rattle.ciexyz.proofs.consts.triangle_of.Goals as goal
 
 pub returns-in-Srgb : goal.returns-in-Srgb

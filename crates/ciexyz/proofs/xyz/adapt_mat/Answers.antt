@@ -1,7 +1,6 @@
 -- `adapt_mat` answers `adapt_of`.
 -- Each call's result stands for its meaning.
 use Rattle.ciexyz.specs.Xyz.{adapt_of}
-use Rattle.std.proofs.Common.{rules}
 use Rattle.ciexyz.proofs.xyz.adapt_mat.Goals as goal
 
 pub returns : goal.returns

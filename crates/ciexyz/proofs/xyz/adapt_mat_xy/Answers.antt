@@ -1,6 +1,5 @@
 -- `adapt_mat_xy` answers `adapt_xy`.
 -- Each call's result stands for its meaning, and the test that led to a return picks the spec's case.
-use Rattle.std.proofs.Common.{rules}
 use Rattle.ciexyz.specs.Xyz.{identity_mat}
 use Rattle.ciexyz.proofs.xyz.adapt_mat_xy.Goals as goal
 

@@ -1,6 +1,5 @@
 -- `bradford_adapt` answers `bradford_between`.
 -- Each call's result stands for its meaning, and the constants of the code are those of the spec.
-use Rattle.std.proofs.Common.{rules}
 use Rattle.ciexyz.specs.Constants.{bradford_mat, bradford_inv}
 use Rattle.ciexyz.proofs.xyz.bradford_adapt.Goals as goal
 

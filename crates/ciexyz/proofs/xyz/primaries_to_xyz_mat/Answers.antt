@@ -1,7 +1,6 @@
 -- `primaries_to_xyz_mat` answers `to_xyz`.
 -- Each call's result stands for its meaning.
 use Rattle.ciexyz.specs.Xyz.{to_xyz}
-use Rattle.std.proofs.Common.{rules}
 use Rattle.ciexyz.proofs.xyz.primaries_to_xyz_mat.Goals as goal
 
 pub returns : goal.returns

@@ -1,6 +1,5 @@
 -- `primaries_to_xyz_mat_xy` answers `to_xyz_xy`.
 -- Each call's result stands for its meaning.
-use Rattle.std.proofs.Common.{rules}
 use Rattle.ciexyz.proofs.xyz.primaries_to_xyz_mat_xy.Goals as goal
 
 pub returns : goal.returns

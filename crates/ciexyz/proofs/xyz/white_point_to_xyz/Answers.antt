@@ -1,6 +1,5 @@
 -- `white_point_to_xyz` answers `white_xyz`.
 -- Each call's result stands for its meaning.
-use Rattle.std.proofs.Common.{rules}
 use Rattle.ciexyz.specs.Xyz.{white_xyz}
 use Rattle.ciexyz.proofs.xyz.white_point_to_xyz.Goals as goal
 

@@ -1,7 +1,6 @@
 -- `xyz_to_primaries_mat` answers `from_xyz`.
 -- Each call's result stands for its meaning.
 use Rattle.ciexyz.specs.Xyz.{from_xyz}
-use Rattle.std.proofs.Common.{rules}
 use Rattle.ciexyz.proofs.xyz.xyz_to_primaries_mat.Goals as goal
 
 pub returns : goal.returns
