@@ -1,6 +1,5 @@
 -- `weights_of` gives a firmware's weights.
 -- Each return rewrites with the test that led there.
-use borrow.Author.Rules.{rules}
 use borrow.Author.Tests.{eq-eqb, ne_eqb}
 use Rattle.firmware.proofs.weights_of.Goals as goal
 
