@@ -4,20 +4,16 @@ use Prim.Native.Nat.{◌≤◌}
 use mathlib.Core.Path.{refl}
 use native.Mathlib.Nat.{mul-le-mul}
 use native.Mathlib.Omega.{arith}
-use Rattle.pixel.proofs.scaled.Statement.{statement}
-use Rattle.pixel.proofs.scaled.Tie as tie
+use Rattle.pixel.proofs.scaled.Goals as goal
 
-mul-result : tie.Need-overflow-mul-result
-mul-result c =
+pub overflow_mul-result : goal.overflow_mul-result
+overflow_mul-result c =
     let f : c.args.factor ≤ 0xffff_ffff = omega arith in
     let b : c.args.byte ≤ 255 = omega arith in
     omega (arith, mul-le-mul f b)
 
-returns : tie.Need-returns
+pub returns : goal.returns
 returns c =
     let f : c.args.factor ≤ 0xffff_ffff = omega arith in
     let b : c.args.byte ≤ 255 = omega arith in
     record { is = refl; small = omega (arith, mul-le-mul f b) }
-
-pub scaled-spec : {M : Type 1} → statement M
-scaled-spec = tie.close (tie.spec mul-result returns)
