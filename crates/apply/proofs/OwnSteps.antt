@@ -4,7 +4,7 @@ use Prim.Native.Nat.{ℕ}
 use mathlib.Core.Path.{◌≡◌, ap, refl, sym}
 use mathlib.Core.Bool.{Bool, true, false}
 use lib.Ieee.{Float}
-use Rattle.notation.specs.Choice.{if◌then◌else◌}
+use Rattle.notation.specs.Choice.{when◌then◌else◌}
 use Rattle.ciexyz.specs.Matrix.{applied}
 use Rattle.ciexyz.specs.declared.Mat3.{Mat3}
 use Rattle.ciexyz.specs.declared.Vec3.{Vec3}
@@ -35,7 +35,7 @@ module _ (w : ℕ) (s : Channels) where
   pub of-clip : stepped_of w (clipped_within w) s ≡ own_step O.Clip w s
   of-clip = refl
 
-  unchanged : (b : Bool) → (if b then s else s) ≡ s
+  unchanged : (b : Bool) → (when b then s else s) ≡ s
   unchanged true = refl
   unchanged false = refl
 

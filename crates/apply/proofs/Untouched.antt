@@ -6,7 +6,7 @@ use mathlib.Core.Bool.{Bool, true, false}
 use mathlib.Core.List.{List, [], ◌∷◌}
 use denote.Enum.Declared.{tag_of}
 use types.Run.{OneOf, miss}
-use Rattle.notation.specs.Choice.{if◌then◌else◌}
+use Rattle.notation.specs.Choice.{when◌then◌else◌}
 use Rattle.channels.specs.Channels.{Channels, equally_long, where_equal}
 use Rattle.op.specs.declared.Op.{Op}
 use Rattle.op.specs.declared.Op.TheVariants as O
@@ -31,6 +31,6 @@ no_effect (O.GamutMap luminances factor) h w s = refl
 pub untouched : (o : Op) → OneOf others (tag_of Enum.the_type o) → (w : ℕ) (s : Channels) → s ≡ where_equal (after_op o w) s
 untouched o h w s = rw (no_effect o h w s) (by (equally_long s))
   where
-    by : (b : Bool) → s ≡ (if b then s else s)
+    by : (b : Bool) → s ≡ (when b then s else s)
     by true = refl
     by false = refl

@@ -9,7 +9,7 @@ use native.Mathlib.Omega.{arith}
 use borrow.Author.Tests.{le-ltb}
 use lib.ListN.{length, take, drop, length-take}
 use lib.Seq.{take_all, take-nil, take-take}
-use Rattle.notation.specs.Choice.{if◌then◌else◌}
+use Rattle.notation.specs.Choice.{when◌then◌else◌}
 use Rattle.binary32.proofs.Size.{split_le}
 use Rattle.list.specs.Lists.{well_formed}
 use Rattle.op.specs.declared.Op.{Op}
@@ -51,7 +51,7 @@ ops-enough (suc n) s k h = rw (op-enough s k (omega arith)) (by (op_in s) refl (
     by (Refused reading) e rest = refl
 
 -- of a slice that has its head whole, the mark decides, and then what is behind the head
-headed : (s : List ℕ) → 8 ≤ length s → read_of s ≡ (if not (right_mark s) then refused_by WrongMark else read_behind (version_of s) s)
+headed : (s : List ℕ) → 8 ≤ length s → read_of s ≡ (when not (right_mark s) then refused_by WrongMark else read_behind (version_of s) s)
 headed s h =
     let seven : 7 ≤ length s = omega arith in
     let all : head_of (version_of s) ≤ length s = omega (arith, (head-within (version_of s)).1) in

@@ -7,7 +7,7 @@ use mathlib.Core.List.{List}
 use borrow.Author.Tests.{eqb-true, ne_eqb}
 use lib.Dec.{eqb, ltb}
 use lib.ListN.{length, drop}
-use Rattle.notation.specs.Choice.{if◌then◌else◌}
+use Rattle.notation.specs.Choice.{when◌then◌else◌}
 use Rattle.list.specs.Lists.{plan_of, well_formed}
 use Rattle.block.specs.Fields.{byte_at, u16_at}
 use Rattle.block.specs.Block.{refused_by, version_of, Ops, ops, refused, ops_in, listed, end_told, read_of}
@@ -28,9 +28,9 @@ first_listed start (refused reading) = refused_by reading
 -- "Order: under 7 bytes (7), 8, 10, then op by op" (01, Plan block)
 abbrev pub first_of : List ℕ → Block
 first_of s =
-    if ltb (length s) 7 then refused_by Short
-    else if first_mark s then
-    (if well_formed (byte_at s 5) (byte_at s 6) then first_listed (byte_at s 5) (ops_in (byte_at s 6) (drop 7 s)) else refused_by Malformed)
+    when ltb (length s) 7 then refused_by Short
+    else when first_mark s then
+    (when well_formed (byte_at s 5) (byte_at s 6) then first_listed (byte_at s 5) (ops_in (byte_at s 6) (drop 7 s)) else refused_by Malformed)
     else refused_by WrongMark
 
 -- the ops behind a head of version 1
@@ -40,14 +40,14 @@ behind-first s v start e (refused reading) = refl
 
 -- the size of a head of 7 bytes is tested once
 once : (short mark : Bool) (c d : Block) → (mark ≡ true → c ≡ d)
-    → (if short then refused_by Short else if not mark then refused_by WrongMark else if short then refused_by Short else c) ≡ (if short then refused_by Short else if mark then d else refused_by WrongMark)
+    → (when short then refused_by Short else when not mark then refused_by WrongMark else when short then refused_by Short else c) ≡ (when short then refused_by Short else when mark then d else refused_by WrongMark)
 once true mark c d e = refl
 once false true c d e = e refl
 once false false c d e = refl
 
 pub first-version : (s : List ℕ) → ¬ (version_of s ≡ 2) → read_of s ≡ first_of s
 first-version s n =
-    let formed : Block → Block = λ b. if well_formed (byte_at s 5) (byte_at s 6) then b else refused_by Malformed in
+    let formed : Block → Block = λ b. when well_formed (byte_at s 5) (byte_at s 6) then b else refused_by Malformed in
     let x = ops_in (byte_at s 6) (drop 7 s) in
     rw (ne_eqb (version_of s) 2 n, or-false (eqb (version_of s) 1))
     (once (ltb (length s) 7) (first_mark s) (formed (end_told s (listed (version_of s) (byte_at s 5) x))) (formed (first_listed (byte_at s 5) x))

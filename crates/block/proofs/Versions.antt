@@ -7,7 +7,7 @@ use mathlib.Core.Logic.{◌↔◌}
 use native.Mathlib.Omega.{arith}
 use borrow.Author.Tests.{eqb-true, eqb-false}
 use lib.Dec.{eqb}
-use Rattle.notation.specs.Choice.{if◌then◌else◌}
+use Rattle.notation.specs.Choice.{when◌then◌else◌}
 use Rattle.notation.proofs.Deciding.{exactly, numbers}
 use Rattle.notation.proofs.Tests.{fails_exactly, negated, both-exactly, either-exactly}
 use Rattle.block.specs.Block.{known_version, head_of}
@@ -20,7 +20,7 @@ module _ (v : ℕ) where
   pub head-within : (7 ≤ head_of v) × (head_of v ≤ 8)
   head-within = by (eqb v 2)
     where
-      by : (b : Bool) → (7 ≤ (if b then 8 else 7)) × ((if b then 8 else 7) ≤ 8)
+      by : (b : Bool) → (7 ≤ (when b then 8 else 7)) × ((when b then 8 else 7) ≤ 8)
       by true = (omega arith, omega arith)
       by false = (omega arith, omega arith)
 

@@ -1,6 +1,6 @@
 -- Bytes in a lent buffer: from a place on, and all else as it was. Definitions only.
 use Rattle.std.specs.Prelude.{ℕ, ◌+◌, ◌≤◌, ◌≡◌, Bool, List, ◌++◌, leb, length, take, drop}
-use Rattle.notation.specs.Choice.{if◌then◌else◌}
+use Rattle.notation.specs.Choice.{when◌then◌else◌}
 
 -- whether there is room for s from a place on
 abbrev pub has_room : List ℕ → ℕ → List ℕ → Bool
@@ -8,10 +8,10 @@ has_room old at s = leb (at + length s) (length old)
 
 -- the buffer with s from that place on, and the place behind it; where there is no room, nothing is put
 abbrev pub placed : List ℕ → ℕ → List ℕ → List ℕ
-placed old at s = if has_room old at s then take at old ++ s ++ drop (at + length s) old else old
+placed old at s = when has_room old at s then take at old ++ s ++ drop (at + length s) old else old
 
 abbrev pub behind : List ℕ → ℕ → List ℕ → ℕ
-behind old at s = if has_room old at s then at + length s else at
+behind old at s = when has_room old at s then at + length s else at
 
 -- ---- the same where there is room, as relations
 

@@ -9,7 +9,7 @@ use lib.Ieee.{Float}
 use lib.IntN.{ℤ}
 use lib.ListN.{length, take, drop}
 use Rattle.notation.specs.Answers.{answer}
-use Rattle.notation.specs.Choice.{if◌then◌else◌}
+use Rattle.notation.specs.Choice.{when◌then◌else◌}
 use Rattle.notation.specs.declared.Answer.{Answer}
 use Rattle.op.specs.declared.Op.{Op}
 use Rattle.list.specs.Lists.{ops_of, plan_of}
@@ -54,7 +54,7 @@ whole_done start os = ap (plan_of start) (ops-of start os)
 whole_refused : (answer : Planning) → Whole (refusal answer)
 whole_refused answer = ap (plan_of 0) (ops-of 0 [])
 
-choice : (b : Bool) (x y : Planned) → Whole x → Whole y → Whole (if b then x else y)
+choice : (b : Bool) (x y : Planned) → Whole x → Whole y → Whole (when b then x else y)
 choice true x y h k = h
 choice false x y h k = k
 
@@ -111,4 +111,4 @@ module _ (source target : List ℤ) (floats : List Float) (detect pq v : ℕ) (o
 pub rewrite_same : (s : List ℕ) → AreBytes s → paper (read_of s).answer ≡ answer 0 0 0 → ¬ RetiredList (read_of s).plan → (old : List ℕ) → (read_of s).used ≤ length old
     → rewrite_left (read_of s) (read_of s).version old ≡ take (read_of s).used s ++ drop (read_of s).used old
 rewrite_same s b e n old room =
-    ap (λ (a : Answer). if eqb a.number 0 then left_of (read_of s).plan (read_of s).version old else old) e ∙ same_block s b e n old room
+    ap (λ (a : Answer). when eqb a.number 0 then left_of (read_of s).plan (read_of s).version old else old) e ∙ same_block s b e n old room

@@ -1,6 +1,6 @@
 -- What each function does with the lists of the blocks that it is given. Definitions only.
 use Rattle.std.specs.Prelude.{ℕ, List, [], ◌∷◌, eqb, length}
-use Rattle.notation.specs.Choice.{if◌then◌else◌}
+use Rattle.notation.specs.Choice.{when◌then◌else◌}
 use Rattle.notation.specs.declared.Answer.{Answer}
 use Rattle.list.specs.Answer as L
 use Rattle.list.specs.Check.{check_of}
@@ -29,7 +29,7 @@ read_sent b = record { number = (paper b.answer).number; length = b.used; start 
 
 -- a check: "the reader's refusal, else the check's"; told are "number, position, width, version of the block"
 abbrev pub checked_of : Block → Answer
-checked_of b = if eqb (paper b.answer).number 0 then L.paper (check_of b.plan) else paper b.answer
+checked_of b = when eqb (paper b.answer).number 0 then L.paper (check_of b.plan) else paper b.answer
 
 abbrev pub check_told : Block → List ℕ
 check_told b = (checked_of b).number ∷ (checked_of b).position ∷ (checked_of b).width ∷ b.version ∷ []
@@ -51,7 +51,7 @@ rewrite_left b version old = left_after (paper b.answer).number b.plan version o
 -- joining: "the first block's refusal by the reader, else the second's, else joining's (10, 5 with its position), else the writer's"
 abbrev pub first_refusal : Reading → Reading → Verdict → Answer
 first_refusal first second verdict =
-    if eqb (paper first).number 0 then if eqb (paper second).number 0 then L.paper verdict else paper second
+    when eqb (paper first).number 0 then when eqb (paper second).number 0 then L.paper verdict else paper second
     else paper first
 
 abbrev pub join_of_blocks : Block → Block → Joined

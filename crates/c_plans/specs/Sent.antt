@@ -1,6 +1,6 @@
 -- A list that is written into the caller's bytes as a plan block, unless something was refused before, and what is told of it. Definitions only.
 use Rattle.std.specs.Prelude.{ℕ, List, [], ◌∷◌, eqb}
-use Rattle.notation.specs.Choice.{if◌then◌else◌}
+use Rattle.notation.specs.Choice.{when◌then◌else◌}
 use Rattle.list.specs.declared.Plan.{Plan}
 use Rattle.writer.specs.Writing.{paper, length_of, writing_of, left_of}
 use Rattle.writer.specs.declared.Writing.{Writing}
@@ -12,16 +12,16 @@ refused number = record { number = number; length = 0; start = 0; end = 0 }
 
 abbrev pub sent_by : Plan → Writing → Sent
 sent_by p w =
-    if eqb (paper w).number 0 then record { number = 0; length = length_of w; start = p.start; end = p.end }
+    when eqb (paper w).number 0 then record { number = 0; length = length_of w; start = p.start; end = p.end }
     else refused (paper w).number
 
 -- "The answer is the planner's number, and where that is 0 the writer's", and so of what else may refuse before
 abbrev pub sent_after : ℕ → Plan → ℕ → ℕ → Sent
-sent_after number p version room = if eqb number 0 then sent_by p (writing_of p version room) else refused number
+sent_after number p version room = when eqb number 0 then sent_by p (writing_of p version room) else refused number
 
 -- "`out` behind the block stays, and a refusal leaves it untouched"
 abbrev pub left_after : ℕ → Plan → ℕ → List ℕ → List ℕ
-left_after number p version old = if eqb number 0 then left_of p version old else old
+left_after number p version old = when eqb number 0 then left_of p version old else old
 
 -- "number, length used, start width, end width"
 abbrev pub widths_told : Sent → List ℕ

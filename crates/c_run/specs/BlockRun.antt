@@ -1,6 +1,6 @@
 -- A plan block read and its list run at once, on three lent channels: what is answered, told and left. Definitions only.
 use Rattle.std.specs.Prelude.{ℕ, List, eqb}
-use Rattle.notation.specs.Choice.{if◌then◌else◌}
+use Rattle.notation.specs.Choice.{when◌then◌else◌}
 use Rattle.notation.specs.declared.Answer.{Answer}
 use Rattle.c_told.specs.Told.{told_by}
 use Rattle.channels.specs.Channels.{Channels}
@@ -15,7 +15,7 @@ use Rattle.run.specs.declared.Outcome.{Outcome}
 
 -- the reader's refusal, and else the run's answer
 abbrev pub answer_by : Reading → Outcome → Answer
-answer_by reading outcome = if eqb (Block.paper reading).number 0 then Run.paper outcome else Block.paper reading
+answer_by reading outcome = when eqb (Block.paper reading).number 0 then Run.paper outcome else Block.paper reading
 
 -- running the list of a plan block
 abbrev pub answer_of : List ℕ → Channels → Answer

@@ -1,7 +1,7 @@
 -- A run by strips on the list of a plan block. "The state of a run is two u64 in a lent array beside the block, which the caller lends at each call:
 -- [1, sum of bad samples] while a run is open, [0, 0] while none is." What each call answers, tells and leaves. Definitions only.
 use Rattle.std.specs.Prelude.{ℕ, List, [], ◌∷◌, eqb, get_or}
-use Rattle.notation.specs.Choice.{if◌then◌else◌}
+use Rattle.notation.specs.Choice.{when◌then◌else◌}
 use Rattle.notation.specs.declared.Answer.{Answer}
 use Rattle.c_told.specs.Told.{told_by}
 use Rattle.channels.specs.Channels.{Channels}
@@ -19,7 +19,7 @@ use Rattle.block.specs.declared.Reading.{Reading}
 
 -- the state that a list and two words stand for; a first word that is not 1 stands for no open run
 abbrev pub state_by : Plan → ℕ → ℕ → State
-state_by p first sum = if eqb first 1 then record { plan = p; bad = sum } else closed
+state_by p first sum = when eqb first 1 then record { plan = p; bad = sum } else closed
 
 -- of a block's list
 abbrev pub state_of : List ℕ → List ℕ → State
@@ -31,14 +31,14 @@ no_run = 0 ∷ 0 ∷ []
 
 -- the words that an accepted call leaves, by the sum in the state that it leaves; or those of a refused one
 abbrev pub words_of : ℕ → ℕ → List ℕ → List ℕ
-words_of number sum refused = if eqb number 0 then 1 ∷ sum ∷ [] else refused
+words_of number sum refused = when eqb number 0 then 1 ∷ sum ∷ [] else refused
 
 -- opening: "the reader's refusal (7, 8, 9, 10), else what opening answers (10, 5, 6, or 0)"; what was open is not looked at
 abbrev pub opened : List ℕ → Opened
 opened bytes = open_of closed (read_of bytes).plan
 
 abbrev pub open_by : Reading → Judgement → Answer
-open_by reading judgement = if eqb (Block.paper reading).number 0 then Judging.paper judgement else Block.paper reading
+open_by reading judgement = when eqb (Block.paper reading).number 0 then Judging.paper judgement else Block.paper reading
 
 abbrev pub open_answer : List ℕ → Answer
 open_answer bytes = open_by (read_of bytes).answer (opened bytes).answer

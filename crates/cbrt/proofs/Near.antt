@@ -13,7 +13,7 @@ use lib.Ieee.{Float, down, fin, inf, nan, size, up}
 use lib.Ieee.Bits.{is_false}
 use lib.Ieee.Exact.{HasValue}
 use lib.Ieee.Fits.{and_i, down_pos}
-use Rattle.notation.specs.Choice.{if◌then◌else◌}
+use Rattle.notation.specs.Choice.{when◌then◌else◌}
 use Rattle.binary32.proofs.Size.{size_gt}
 use Rattle.binary32.specs.Parts.{count}
 use Rattle.cbrt.proofs.Cubes.{cube-mono, cube-mul}
@@ -105,7 +105,7 @@ root_holds (fin t m e) (fin u y d) s A g a q p v c k lo hi w =
     let b : T (beq t u) = subst (λ (z : Bool). T (beq t z)) (v.0 ∙ sym w.0) (same t) in
     let z : T (not (eqb m 0)) = not_T (eqb m 0) (λ i. not_zero m (up e) A (down e) (mul-pos p (down_pos e)) v.1 (eqb→eq m 0 i)) in
     let o : T (within (count y d) (m * up e) (down e)) = rw j (within_of A m e g a q c k lo hi v.1) in
-    and_i (beq t u) (if eqb m 0 then eqb y 0 else within (count y d) (m * up e) (down e)) b (rw (is_false (eqb m 0) z) o)
+    and_i (beq t u) (when eqb m 0 then eqb y 0 else within (count y d) (m * up e) (down e)) b (rw (is_false (eqb m 0) z) o)
   where
     same : (s : Bool) → T (beq s s)
     same true = tt

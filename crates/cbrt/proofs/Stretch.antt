@@ -11,7 +11,7 @@ use lib.IntN.{ℤ}
 use lib.Ieee.{binary32, down, fin, fits, of_bits, size, to_bits, up}
 use lib.Ieee.Bits.{of_bits-to_bits}
 use lib.Ieee.Fits.{and_l, and_r}
-use Rattle.notation.specs.Choice.{if◌then◌else◌}
+use Rattle.notation.specs.Choice.{when◌then◌else◌}
 use Rattle.binary32.proofs.Count.{Held}
 use Rattle.binary32.proofs.Size.{split_le}
 use Rattle.binary32.specs.Parts.{count}
@@ -38,9 +38,9 @@ inside s m e t q d h =
     let D = down e in
     let lo = leb (cube (2 * n - below n) * D) (M * 2 ^ 450) in
     let hi = leb (M * 2 ^ 450) (cube (2 * n + above n) * D) in
-    let c : (if eqb (suc m) 0 then eqb q 0 else lo && hi) ≡ (lo && hi) = ap (λ (b : Bool). if b then eqb q 0 else lo && hi) (eqb-suc-zero m) in
-    let w : T (lo && hi) = subst T c (and_r (beq s t) (if eqb (suc m) 0 then eqb q 0 else lo && hi) h) in
-    (beq-eq s t (and_l (beq s t) (if eqb (suc m) 0 then eqb q 0 else lo && hi) h), (leb→le (cube (2 * n - below n) * D) (M * 2 ^ 450) (and_l lo hi w), leb→le (M * 2 ^ 450) (cube (2 * n + above n) * D) (and_r lo hi w)))
+    let c : (when eqb (suc m) 0 then eqb q 0 else lo && hi) ≡ (lo && hi) = ap (λ (b : Bool). when b then eqb q 0 else lo && hi) (eqb-suc-zero m) in
+    let w : T (lo && hi) = subst T c (and_r (beq s t) (when eqb (suc m) 0 then eqb q 0 else lo && hi) h) in
+    (beq-eq s t (and_l (beq s t) (when eqb (suc m) 0 then eqb q 0 else lo && hi) h), (leb→le (cube (2 * n - below n) * D) (M * 2 ^ 450) (and_l lo hi w), leb→le (M * 2 ^ 450) (cube (2 * n + above n) * D) (and_r lo hi w)))
 
 apart : (s : Bool) (m : ℕ) (e : ℤ) (n n' : ℕ) → T (fits binary32 (fin s (suc m) e)) → Held n → Held n' → Within n (suc m * up e) (down e) → Within n' (suc m * up e) (down e) → n < n' → ⊥
 apart s m e n n' f r r' w w' h =

@@ -5,7 +5,7 @@ use Rattle.std.specs.Bool.{beq}
 use Rattle.std.specs.Float.{nan, inf, fin}
 use Rattle.std.specs.Float.Ieee.{up, down}
 use Rattle.notation.specs.F32.{bits}
-use Rattle.notation.specs.Choice.{if◌then◌else◌}
+use Rattle.notation.specs.Choice.{when◌then◌else◌}
 use Rattle.notation.specs.First.{first}
 use Rattle.binary32.specs.Parts.{count, place_of}
 
@@ -34,7 +34,7 @@ is_root (inf s) (inf t) = beq s t
 is_root (inf s) (fin t q d) = false
 is_root (fin s m e) nan = false
 is_root (fin s m e) (inf t) = false
-is_root (fin s m e) (fin t q d) = beq s t && (if eqb m 0 then eqb q 0 else within (count q d) (m * up e) (down e))
+is_root (fin s m e) (fin t q d) = beq s t && (when eqb m 0 then eqb q 0 else within (count q d) (m * up e) (down e))
 
 -- the f32 that is the root of x, looked for among all patterns of bits
 unfoldable pub cbrt_of : Float → Float

@@ -1,7 +1,7 @@
 -- "A run is always lent three channels" (01, Widths); "`&mut [&mut [f32]]` becomes three lent slices", "`zip` over channels becomes an
 -- index over equal lengths" (01, What must change shape). Definitions only.
 use Rattle.std.specs.Prelude.{ℕ, ◌≡◌, Bool, ◌&&◌, List, [], ◌∷◌, map, eqb, length, Float}
-use Rattle.notation.specs.Choice.{if◌then◌else◌}
+use Rattle.notation.specs.Choice.{when◌then◌else◌}
 use Rattle.ciexyz.specs.declared.Vec3.{Vec3}
 
 -- the three channels, by 01's names
@@ -25,7 +25,7 @@ EquallyLong s = (length s.b ≡ length s.a) × (length s.c ≡ length s.a)
 
 -- what f makes of equally long channels; of others "no buffer changed" (01, Refusal numbers, 4)
 abbrev pub where_equal : (Channels → Channels) → Channels → Channels
-where_equal f s = if equally_long s then f s else s
+where_equal f s = when equally_long s then f s else s
 
 -- what `row` makes of the elements at each place, as far as all three lists go
 abbrev pub zip3 : {A R : Type 0} → (A → A → A → R) → List A → List A → List A → List R

@@ -1,7 +1,7 @@
 -- What a carried op's own step answers. "4 | run or conversion: lent lengths unequal | no buffer changed, width 0" (01, Refusal numbers).
 -- Definitions only.
 use Rattle.std.specs.Prelude.{ℕ}
-use Rattle.notation.specs.Choice.{if◌then◌else◌}
+use Rattle.notation.specs.Choice.{when◌then◌else◌}
 use Rattle.notation.specs.Answers.{answer}
 use Rattle.notation.specs.declared.Answer.{Answer}
 use Rattle.channels.specs.Channels.{Channels, equally_long}
@@ -14,4 +14,4 @@ paper Unequal = answer 4 0 0
 
 -- on these channels, of an op that gives width w
 abbrev pub step_of : ℕ → Channels → Stepping
-step_of w s = if equally_long s then Done w else Unequal
+step_of w s = when equally_long s then Done w else Unequal

@@ -9,14 +9,14 @@ use native.Mathlib.Numerals.{add-one}
 use lib.Ieee.{Float}
 use lib.ListN.{drop, get_or, length, length-drop, take, take-append-drop}
 use lib.Seq.{drop-cons, drop-drop, drop-length, length-take-le}
-use Rattle.notation.specs.Choice.{if◌then◌else◌}
+use Rattle.notation.specs.Choice.{when◌then◌else◌}
 use Rattle.counts.specs.Bad.{bad_in, is_bad, one_if_bad}
 use Rattle.counts.proofs.Joined.{in_joined}
 
 pub at_most_one : (x : Float) → one_if_bad x ≤ 1
 at_most_one x = by (is_bad x)
   where
-    by : (b : Bool) → (if b then 1 else 0) ≤ 1
+    by : (b : Bool) → (when b then 1 else 0) ≤ 1
     by true = omega arith
     by false = omega arith
 

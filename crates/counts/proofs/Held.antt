@@ -6,7 +6,7 @@ use mathlib.Core.Bool.{Bool, true, false}
 use native.Mathlib.Omega.{arith}
 use lib.Dec.{leb}
 use borrow.Author.Tests.{le-leb, leb-false, leb-true}
-use Rattle.notation.specs.Choice.{if◌then◌else◌}
+use Rattle.notation.specs.Choice.{when◌then◌else◌}
 use Rattle.counts.specs.Bad.{held}
 
 abbrev most : ℕ
@@ -18,7 +18,7 @@ small n h = rw (le-leb n most h)
 pub large : (n : ℕ) → 0xffff_ffff_ffff_ffff ≤ n → held n ≡ 0xffff_ffff_ffff_ffff
 large n h = by (leb n most) refl
   where
-    by : (b : Bool) → leb n most ≡ b → (if b then n else most) ≡ most
+    by : (b : Bool) → leb n most ≡ b → (when b then n else most) ≡ most
     by true e = let l = leb-true n most e in omega (arith, h, l)
     by false e = refl
 

@@ -2,7 +2,7 @@
 -- samples left." (02, W4). Definitions only.
 use Rattle.std.specs.Prelude.{ℕ, ◌+◌, Bool, true, false, List, [], ◌∷◌, leb, Float}
 use Rattle.std.specs.Float.{nan, inf, fin}
-use Rattle.notation.specs.Choice.{if◌then◌else◌}
+use Rattle.notation.specs.Choice.{when◌then◌else◌}
 use Rattle.channels.specs.Channels.{Channels, where_equal}
 use Rattle.channels.specs.Stepping.{step_of}
 use Rattle.channels.specs.declared.Stepping.{Stepping}
@@ -17,7 +17,7 @@ is_bad (fin s m e) = false
 
 -- how many of a channel's samples
 abbrev pub one_if_bad : Float → ℕ
-one_if_bad x = if is_bad x then 1 else 0
+one_if_bad x = when is_bad x then 1 else 0
 
 abbrev pub bad_in : List Float → ℕ
 bad_in [] = 0
@@ -25,14 +25,14 @@ bad_in (x ∷ xs) = one_if_bad x + bad_in xs
 
 -- "in the channels within its given width"
 abbrev pub bad_if : Bool → List Float → ℕ
-bad_if inside xs = if inside then bad_in xs else 0
+bad_if inside xs = when inside then bad_in xs else 0
 
 abbrev pub bad_within : ℕ → Channels → ℕ
 bad_within w s = bad_if (leb 1 w) s.a + bad_if (leb 2 w) s.b + bad_if (leb 3 w) s.c
 
 -- "counts are held at 2^64 - 1"
 abbrev pub held : ℕ → ℕ
-held n = if leb n 0xffff_ffff_ffff_ffff then n else 0xffff_ffff_ffff_ffff
+held n = when leb n 0xffff_ffff_ffff_ffff then n else 0xffff_ffff_ffff_ffff
 
 -- the number that is reported of channels that are left
 abbrev pub count_of : ℕ → Channels → ℕ

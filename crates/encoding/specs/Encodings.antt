@@ -1,6 +1,6 @@
 -- The channels of an encoding, and whether it is HDR.
 use Rattle.std.specs.Prelude.{ℕ, Bool, ◌||◌}
-use Rattle.notation.specs.Choice.{if◌then◌else◌}
+use Rattle.notation.specs.Choice.{when◌then◌else◌}
 use Rattle.same.specs.Same.{same_curve}
 use Rattle.op.specs.declared.Curve.TheVariants as C
 use Rattle.encoding.specs.Named.{same_space}
@@ -9,7 +9,7 @@ use Rattle.encoding.specs.declared.EnumColourEncoding.{EnumColourEncoding}
 
 -- "1 for a Grey source, else 3" (01, Planning), and so for a target
 abbrev pub channels_of : EnumColourEncoding → ℕ
-channels_of e = if same_space e.colour_space S.Grey then 1 else 3
+channels_of e = when same_space e.colour_space S.Grey then 1 else 3
 
 -- "HDR means Pq or Hlg." (01, Encodings and settings)
 abbrev pub is_hdr : EnumColourEncoding → Bool

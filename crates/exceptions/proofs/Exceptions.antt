@@ -5,7 +5,7 @@ use mathlib.Core.Path.{◌≡◌, refl, ap, sym, ◌∙◌}
 use mathlib.Core.Bool.{Bool, true, false, ◌&&◌, not}
 use mathlib.Core.Logic.{◌↔◌, ◌⊎◌, inl, inr, ⊎_elim}
 use native.Mathlib.Omega.{arith}
-use Rattle.notation.specs.Choice.{if◌then◌else◌}
+use Rattle.notation.specs.Choice.{when◌then◌else◌}
 use Rattle.op.specs.declared.Curve.TheVariants as C
 use Rattle.list.specs.declared.Plan.{Plan}
 use Rattle.list.proofs.Formed.{never_both}
@@ -70,7 +70,7 @@ module _ (source target : EnumColourEncoding) (settings : Settings) (done : Plan
   plan = (planned_of (E.Enum source) (E.Enum target) settings).plan
 
   -- the equation: the end width that the check tells, 0 where it refuses
-  pub verdict : (paper (check_of plan)).width ≡ (if not (equivalent source target) && exception source target then 0 else channels_of target)
+  pub verdict : (paper (check_of plan)).width ≡ (when not (equivalent source target) && exception source target then 0 else channels_of target)
   verdict = done-verdict source target settings (sorted source target settings) done
 
   -- a width that is told is not 0
@@ -96,7 +96,7 @@ module _ (source target : EnumColourEncoding) (settings : Settings) (done : Plan
   pub end-width : (v : ℕ) → paper (check_of plan) ≡ answer 0 0 v → v ≡ channels_of target
   end-width v e = by (judged plan) (not (equivalent source target) && exception source target) (told-width e verdict)
     where
-      by : Judged plan → (x : Bool) → v ≡ (if x then 0 else channels_of target) → v ≡ channels_of target
+      by : Judged plan → (x : Bool) → v ≡ (when x then 0 else channels_of target) → v ≡ channels_of target
       by j false h = h
       by (malformed u) true h = apart e (is-malformed plan u) (omega arith)
       by (passing l f) true h = let s = (end-within plan l f).some in let k = told-width (is-passing plan l f) (ap (λ (a : Answer). a.width) e) in absurd (omega arith)
@@ -109,7 +109,7 @@ module _ (source target : EnumColourEncoding) (settings : Settings) (done : Plan
     λ x. by (judged plan) (verdict ∙ rw ((excepted-exactly source target).1 x)),
   )
     where
-      read : (x : Bool) → (not (equivalent source target) && exception source target) ≡ x → 0 ≡ (if x then 0 else channels_of target) → (not (equivalent source target) && exception source target) ≡ true
+      read : (x : Bool) → (not (equivalent source target) && exception source target) ≡ x → 0 ≡ (when x then 0 else channels_of target) → (not (equivalent source target) && exception source target) ≡ true
       read true q h = q
       read false q h = absurd (not-0 0 refl h)
 

@@ -5,7 +5,7 @@ use mathlib.Core.Path.{◌≡◌, refl, ap, ◌∙◌}
 use mathlib.Core.Bool.{Bool, true, false, ◌&&◌, ◌||◌, not}
 use mathlib.Core.List.{List, [], ◌∷◌, ◌++◌}
 use lib.Ieee.{Float}
-use Rattle.notation.specs.Choice.{if◌then◌else◌}
+use Rattle.notation.specs.Choice.{when◌then◌else◌}
 use Rattle.ciexyz.specs.declared.Mat3.{Mat3}
 use Rattle.ciexyz.specs.declared.Xy.{Xy}
 use Rattle.same.specs.Same.{same_curve}
@@ -22,7 +22,7 @@ use Rattle.planner.proofs.Building.{wide}
 
 -- 0 where a test fails
 abbrev pub unless : Bool → ℕ → ℕ
-unless b n = if b then 0 else n
+unless b n = when b then 0 else n
 
 -- where the first ops fail by a test, or end at one width
 pub go_on : (xs ys : List Op) (w v : ℕ) (b : Bool) → end_from w xs ≡ unless b v → end_from w (xs ++ ys) ≡ unless b (end_from v ys)
@@ -45,22 +45,22 @@ curve_verdict C.Dci p i grey = refl
 curve_verdict C.Hlg p i true = refl
 curve_verdict C.Hlg p i false = refl
 
-pub target_curve : (c : Curve) (p : HdrParams) (grey : Bool) → end_from (wide grey) (if same_curve c C.Linear then [] else (O.TransferFunction c p false ∷ [])) ≡ unless (same_curve c C.Hlg && grey) (wide grey)
+pub target_curve : (c : Curve) (p : HdrParams) (grey : Bool) → end_from (wide grey) (when same_curve c C.Linear then [] else (O.TransferFunction c p false ∷ [])) ≡ unless (same_curve c C.Hlg && grey) (wide grey)
 target_curve c p grey = by (same_curve c C.Linear) refl
   where
-    by : (l : Bool) → same_curve c C.Linear ≡ l → end_from (wide grey) (if l then [] else (O.TransferFunction c p false ∷ [])) ≡ unless (same_curve c C.Hlg && grey) (wide grey)
+    by : (l : Bool) → same_curve c C.Linear ≡ l → end_from (wide grey) (when l then [] else (O.TransferFunction c p false ∷ [])) ≡ unless (same_curve c C.Hlg && grey) (wide grey)
     by true e = rw ((same_curve-exactly c C.Linear).0 e)
     by false e = curve_verdict c p false grey
 
 -- conversion: from Grey or not, Perceptual or not, Absolute or not, to Grey or not
 module _ (l : Luminances) (f : Float) (x : Xy) (m n k : Mat3) where
-  to-xyz : (grey perceptual : Bool) (os : List Op) → end_from (wide grey) ((if perceptual then O.GamutMap l f else O.Clip) ∷ (if grey then O.LumaToXyz x else O.Matrix m) ∷ os) ≡ unless (perceptual && grey) (end_from 3 os)
+  to-xyz : (grey perceptual : Bool) (os : List Op) → end_from (wide grey) ((when perceptual then O.GamutMap l f else O.Clip) ∷ (when grey then O.LumaToXyz x else O.Matrix m) ∷ os) ≡ unless (perceptual && grey) (end_from 3 os)
   to-xyz true true os = refl
   to-xyz true false os = refl
   to-xyz false true os = refl
   to-xyz false false os = refl
 
-  from-xyz : (absolute grey : Bool) → end_from 3 ((if absolute then [] else (O.Matrix n ∷ [])) ++ ((if grey then O.XyzToLuma else O.Matrix k) ∷ [])) ≡ wide grey
+  from-xyz : (absolute grey : Bool) → end_from 3 ((when absolute then [] else (O.Matrix n ∷ [])) ++ ((when grey then O.XyzToLuma else O.Matrix k) ∷ [])) ≡ wide grey
   from-xyz true true = refl
   from-xyz true false = refl
   from-xyz false true = refl
@@ -68,19 +68,19 @@ module _ (l : Luminances) (f : Float) (x : Xy) (m n k : Mat3) where
 
   pub convert-verdict : (entered grey perceptual absolute target : Bool)
       → end_from (wide grey)
-      (if entered
-      then (if perceptual then O.GamutMap l f else O.Clip) ∷ (if grey then O.LumaToXyz x else O.Matrix m) ∷ ((if absolute then [] else (O.Matrix n ∷ [])) ++ ((if target then O.XyzToLuma else O.Matrix k) ∷ []))
+      (when entered
+      then (when perceptual then O.GamutMap l f else O.Clip) ∷ (when grey then O.LumaToXyz x else O.Matrix m) ∷ ((when absolute then [] else (O.Matrix n ∷ [])) ++ ((when target then O.XyzToLuma else O.Matrix k) ∷ []))
       else [])
-      ≡ unless (entered && (perceptual && grey)) (wide (if entered then target else grey))
-  convert-verdict true grey perceptual absolute target = to-xyz grey perceptual ((if absolute then [] else (O.Matrix n ∷ [])) ++ ((if target then O.XyzToLuma else O.Matrix k) ∷ [])) ∙ ap (unless (perceptual && grey)) (from-xyz absolute target)
+      ≡ unless (entered && (perceptual && grey)) (wide (when entered then target else grey))
+  convert-verdict true grey perceptual absolute target = to-xyz grey perceptual ((when absolute then [] else (O.Matrix n ∷ [])) ++ ((when target then O.XyzToLuma else O.Matrix k) ∷ [])) ∙ ap (unless (perceptual && grey)) (from-xyz absolute target)
   convert-verdict false grey perceptual absolute target = refl
 
 -- the tone map of one channel or three, and the GamutMap of three
 module _ (p : HdrParams) (d f : Float) (t : Bool) (l : Luminances) where
   pub tone-verdict : (wanted grey perceptual : Bool)
       → end_from (wide grey)
-      (if wanted
-      then (if grey then O.ToneMapLumaRec2408 p d t else O.ToneMapRec2408 p d t) ∷ (if not grey && perceptual then O.GamutMap l f ∷ [] else [])
+      (when wanted
+      then (when grey then O.ToneMapLumaRec2408 p d t else O.ToneMapRec2408 p d t) ∷ (when not grey && perceptual then O.GamutMap l f ∷ [] else [])
       else [])
       ≡ wide grey
   tone-verdict false grey perceptual = refl
@@ -91,8 +91,8 @@ module _ (p : HdrParams) (d f : Float) (t : Bool) (l : Luminances) where
   -- the PQ to HLG steps: near 1000 or not
   pub hlg-verdict : (wanted near grey perceptual : Bool) (q : HdrParams)
       → end_from (wide grey)
-      (if wanted
-      then (if near then [] else ((if grey then O.ToneMapLumaRec2408 p d t else O.ToneMapRec2408 p d t) ∷ O.HlgInverseOotf q ∷ [])) ++ (if not grey && perceptual then O.GamutMap l f ∷ [] else [])
+      (when wanted
+      then (when near then [] else ((when grey then O.ToneMapLumaRec2408 p d t else O.ToneMapRec2408 p d t) ∷ O.HlgInverseOotf q ∷ [])) ++ (when not grey && perceptual then O.GamutMap l f ∷ [] else [])
       else [])
       ≡ unless (wanted && (grey && not near)) (wide grey)
   hlg-verdict false near grey perceptual q = refl

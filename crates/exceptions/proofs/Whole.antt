@@ -7,7 +7,7 @@ use mathlib.Core.List.{List, [], ◌++◌}
 use native.Mathlib.Omega.{arith}
 use lib.ListN.{length}
 use Rattle.notation.specs.F32.{bits}
-use Rattle.notation.specs.Choice.{if◌then◌else◌}
+use Rattle.notation.specs.Choice.{when◌then◌else◌}
 use Rattle.ciexyz.specs.Points.{illuminant_of}
 use Rattle.ciexyz.specs.Xyz.{to_xyz, from_xyz, adapt_of}
 use Rattle.ciexyz.specs.declared.Primaries.TheVariants as P
@@ -108,7 +108,7 @@ module _ (current target : EnumColourEncoding) where
       (differs current target) (is_grey current) (same_intent current.rendering_intent I.Perceptual) (same_intent current.rendering_intent I.Absolute) (is_grey target)
       ∙ ap (λ (g : Bool). unless (differs current target && grey_perceptual current) (wide g)) (by (differs current target) refl)
     where
-      by : (d : Bool) → differs current target ≡ d → (if d then is_grey target else is_grey current) ≡ is_grey target
+      by : (d : Bool) → differs current target ≡ d → (when d then is_grey target else is_grey current) ≡ is_grey target
       by true e = refl
       by false e = ap (λ (s : ColourSpace). same_space s S.Grey) (no_difference e)
 

@@ -5,7 +5,7 @@ use mathlib.Core.Path.{◌≡◌, ap, refl}
 use mathlib.Core.Bool.{Bool, true, false, false≢true, not}
 use mathlib.Core.Logic.{◌↔◌}
 use native.Mathlib.Omega.{arith}
-use Rattle.notation.specs.Choice.{if◌then◌else◌}
+use Rattle.notation.specs.Choice.{when◌then◌else◌}
 use Rattle.notation.specs.Answers.{answer}
 use Rattle.notation.specs.declared.Answer.{Answer}
 use Rattle.notation.proofs.Tests.{fails_exactly, negated}
@@ -17,11 +17,11 @@ use Rattle.firmware.specs.declared.Conversion.TheVariants.{Done, UnknownFirmware
 use Rattle.firmware.proofs.Means.{known_exactly}
 
 -- what is answered behind the test of the firmware
-behind : {M P : Type 0} (known : Bool) (x y : Conversion) → ((known ≡ true) ↔ M) → ¬ (13 ≡ (paper y).number) → ((paper x ≡ paper y) ↔ P) → ((paper (if not known then UnknownFirmware else x) ≡ paper y) ↔ (M × P))
+behind : {M P : Type 0} (known : Bool) (x y : Conversion) → ((known ≡ true) ↔ M) → ¬ (13 ≡ (paper y).number) → ((paper x ≡ paper y) ↔ P) → ((paper (when not known then UnknownFirmware else x) ≡ paper y) ↔ (M × P))
 behind true x y k unlike f = (λ e. (k.0 refl, f.0 e), λ h. f.1 h.1)
 behind false x y k unlike f = (λ e. absurd (unlike (ap (λ (a : Answer). a.number) e)), λ h. absurd (false≢true (k.1 h.0)))
 
-not_thirteen : (equal : Bool) → ¬ (13 ≡ (paper (if equal then Done else Unequal)).number)
+not_thirteen : (equal : Bool) → ¬ (13 ≡ (paper (when equal then Done else Unequal)).number)
 not_thirteen true = omega arith
 not_thirteen false = omega arith
 
@@ -29,15 +29,15 @@ not_thirteen false = omega arith
 module _ (firmware : ℕ) {equal : Bool} {E : Type 0} (test : (equal ≡ true) ↔ E) where
   pub thirteen-exactly : (paper (conversion_of firmware equal) ≡ answer 13 0 0) ↔ (¬ Meant firmware)
   thirteen-exactly =
-      first-exactly paper UnknownFirmware (if equal then Done else Unequal) (not_thirteen equal) (not (known_firmware firmware)) (negated (fails_exactly (known_exactly firmware)))
+      first-exactly paper UnknownFirmware (when equal then Done else Unequal) (not_thirteen equal) (not (known_firmware firmware)) (negated (fails_exactly (known_exactly firmware)))
 
   pub four-exactly : (paper (conversion_of firmware equal) ≡ answer 4 0 0) ↔ (Meant firmware × (¬ E))
   four-exactly =
-      behind (known_firmware firmware) (if equal then Done else Unequal) Unequal (known_exactly firmware) (omega arith) (second-exactly paper Done Unequal (omega arith) equal test)
+      behind (known_firmware firmware) (when equal then Done else Unequal) Unequal (known_exactly firmware) (omega arith) (second-exactly paper Done Unequal (omega arith) equal test)
 
   pub zero-exactly : (paper (conversion_of firmware equal) ≡ answer 0 0 0) ↔ (Meant firmware × E)
   zero-exactly =
-      behind (known_firmware firmware) (if equal then Done else Unequal) Done (known_exactly firmware) (omega arith) (first-exactly paper Done Unequal (omega arith) equal test)
+      behind (known_firmware firmware) (when equal then Done else Unequal) Done (known_exactly firmware) (omega arith) (first-exactly paper Done Unequal (omega arith) equal test)
 
 -- whatever would have been left
 pub refused-changes_nothing : {A : Type 0} (c : Conversion) (converted old : A) → ¬ ((paper c).number ≡ 0) → left_by c converted old ≡ old
@@ -49,7 +49,7 @@ refused-changes_nothing Unequal converted old n = refl
 pub done-equal : (firmware : ℕ) (equal : Bool) → Done ≡ conversion_of firmware equal → equal ≡ true
 done-equal firmware equal = by (known_firmware firmware) equal
   where
-    by : (known equal : Bool) → Done ≡ (if not known then UnknownFirmware else if equal then Done else Unequal) → equal ≡ true
+    by : (known equal : Bool) → Done ≡ (when not known then UnknownFirmware else when equal then Done else Unequal) → equal ≡ true
     by true true e = refl
     by true false e = absurd (let z : ◌≡◌ {A = ℕ} 0 1 = cc in omega arith)
     by false equal e = absurd (let z : ◌≡◌ {A = ℕ} 0 1 = cc in omega arith)

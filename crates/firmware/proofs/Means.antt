@@ -7,7 +7,7 @@ use mathlib.Core.Logic.{◌↔◌}
 use native.Mathlib.Omega.{arith}
 use borrow.Author.Tests.{eqb-false, eqb-true, le-leb, leb-true, ne_eqb}
 use lib.Dec.{eqb, leb}
-use Rattle.notation.specs.Choice.{if◌then◌else◌}
+use Rattle.notation.specs.Choice.{when◌then◌else◌}
 use Rattle.notation.proofs.Tests.{both-exactly}
 use Rattle.weights.specs.Weights.{bt709, t871}
 use Rattle.weights.specs.declared.Weights.{Weights}
@@ -20,7 +20,7 @@ means_exactly firmware w = (told, λ h. by (eqb firmware 4) refl h.0 h.1)
     told (to_three {firmware} low high) = (rw (le-leb 1 firmware low, le-leb firmware 4 (omega arith)), rw (ne_eqb firmware 4 (λ e. omega arith)))
     told four = (refl, refl)
 
-    by : (is-four : Bool) → eqb firmware 4 ≡ is-four → known_firmware firmware ≡ true → w ≡ (if is-four then bt709 else t871) → Means firmware w
+    by : (is-four : Bool) → eqb firmware 4 ≡ is-four → known_firmware firmware ≡ true → w ≡ (when is-four then bt709 else t871) → Means firmware w
     by true e known is = rw (eqb-true firmware 4 e, is) four
     by false e known is =
         let h = (both-exactly {a = leb 1 firmware} {b = leb firmware 4} (leb-true 1 firmware, le-leb 1 firmware) (leb-true firmware 4, le-leb firmware 4)).0 known in

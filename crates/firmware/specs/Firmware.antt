@@ -1,6 +1,6 @@
 -- "The caller names the firmware; 1 to 3 means T.871, 4 means BT.709, on both the float and the byte entry." (02, W7). Definitions and relations only.
 use Rattle.std.specs.Prelude.{ℕ, ◌≤◌, Bool, ◌&&◌, eqb, leb}
-use Rattle.notation.specs.Choice.{if◌then◌else◌}
+use Rattle.notation.specs.Choice.{when◌then◌else◌}
 use Rattle.weights.specs.Weights.{t871, bt709}
 use Rattle.weights.specs.declared.Weights.{Weights}
 
@@ -19,4 +19,4 @@ known_firmware firmware = leb 1 firmware && leb firmware 4
 
 -- the weights; for a firmware that is refused they are not looked at
 abbrev pub weights_of : ℕ → Weights
-weights_of firmware = if eqb firmware 4 then bt709 else t871
+weights_of firmware = when eqb firmware 4 then bt709 else t871

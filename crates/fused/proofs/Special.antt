@@ -5,7 +5,7 @@ use mathlib.Core.Bool.{Bool, beq, cond, false, not, true}
 use lib.Dec.{T, eqb}
 use lib.Ieee.{Float, add, binary32, fin, inf, mul, nan}
 use lib.Ieee.Scale.{finite}
-use Rattle.notation.specs.Choice.{if◌then◌else◌}
+use Rattle.notation.specs.Choice.{when◌then◌else◌}
 use Rattle.fused.specs.Fused.{fused, plus, plus_inf}
 
 inf_plus : (s : Bool) (c : Float) → add binary32 (inf s) c ≡ plus_inf s c
@@ -13,12 +13,12 @@ unfolding add plus_inf
 inf_plus s nan = refl
 inf_plus s (inf t) = same (beq s t)
   where
-    same : (b : Bool) → cond b (inf s) nan ≡ (if b then inf s else nan)
+    same : (b : Bool) → cond b (inf s) nan ≡ (when b then inf s else nan)
     same true = refl
     same false = refl
 inf_plus s (fin t n d) = refl
 
-choice_plus : (b s : Bool) (c : Float) → add binary32 (cond b nan (inf s)) c ≡ (if b then nan else plus_inf s c)
+choice_plus : (b s : Bool) (c : Float) → add binary32 (cond b nan (inf s)) c ≡ (when b then nan else plus_inf s c)
 choice_plus true s c = unfold add in refl
 choice_plus false s c = inf_plus s c
 

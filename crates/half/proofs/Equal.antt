@@ -9,7 +9,7 @@ use borrow.Author.Tests.{ltb-true}
 use lib.Dec.{ltb}
 use lib.ListN.{get_or, length, replicate, length-replicate, get_or-replicate}
 use lib.Seq.{ext_get_or}
-use Rattle.notation.specs.Choice.{if◌then◌else◌}
+use Rattle.notation.specs.Choice.{when◌then◌else◌}
 use Rattle.nearest.specs.Nearest.{byte_of}
 use Rattle.half.specs.Twice.{FitsTwice}
 use Rattle.half.specs.Widening.{beside_of, mix_of, widened, widened_at}
@@ -48,7 +48,7 @@ module _ (x n m : ℕ) (byte : x ≤ 255) (fits : FitsTwice n m) where
       s : List ℕ
       s = widened (replicate n x) m
 
-      by : (b : Bool) → ltb (2 * i + 1) (length s) ≡ b → (if b then mean_of (get_or s (2 * i) 0) (get_or s (2 * i + 1) 0) else get_or s (2 * i) 0) ≡ x
+      by : (b : Bool) → ltb (2 * i + 1) (length s) ≡ b → (when b then mean_of (get_or s (2 * i) 0) (get_or s (2 * i + 1) 0) else get_or s (2 * i) 0) ≡ x
       by true e =
           let l = ltb-true (2 * i + 1) (length s) e in
           let k : 2 * i + 1 < m = omega (arith, long) in

@@ -1,7 +1,7 @@
 -- What widening and narrowing answer and leave; they name no width. "Refusals: [..] 4 for lengths that do not fit; outputs untouched." (02, W13).
 -- Definitions only.
 use Rattle.std.specs.Prelude.{ℕ, Bool, List, length}
-use Rattle.notation.specs.Choice.{if◌then◌else◌}
+use Rattle.notation.specs.Choice.{when◌then◌else◌}
 use Rattle.notation.specs.Answers.{answer}
 use Rattle.notation.specs.declared.Answer.{Answer}
 use Rattle.half.specs.Twice.{fits_twice}
@@ -16,7 +16,7 @@ paper Unfit = answer 4 0 0
 
 -- where the lent lengths fit or not
 abbrev pub fitting_of : Bool → Fitting
-fitting_of fits = if fits then Done else Unfit
+fitting_of fits = when fits then Done else Unfit
 
 -- what is left: the line made, and where it is refused the one that was there
 abbrev pub left_by : Fitting → List ℕ → List ℕ → List ℕ

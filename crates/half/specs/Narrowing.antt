@@ -1,6 +1,6 @@
 -- "narrowing too: each pair's mean, nearest, halves upward, and an odd last byte as it is." (02, W13). Definitions and relations only.
 use Rattle.std.specs.Prelude.{ℕ, ◌+◌, ◌*◌, ◌/◌, ◌<◌, ◌≡◌, List, ltb, get_or, length}
-use Rattle.notation.specs.Choice.{if◌then◌else◌}
+use Rattle.notation.specs.Choice.{when◌then◌else◌}
 use Rattle.nearest.specs.Nearest.{Nearest, ⟨◌-◌⟩/◌, byte_of}
 use Rattle.half.specs.Lines.{line}
 use Rattle.half.specs.Twice.{FitsTwice}
@@ -16,7 +16,7 @@ unfoldable pub mean_of : ℕ → ℕ → ℕ
 mean_of a b = byte_of (⟨ a + b - 0 ⟩/ 2)
 
 abbrev pub narrowed_at : List ℕ → ℕ → ℕ
-narrowed_at c i = if ltb (2 * i + 1) (length c) then mean_of (get_or c (2 * i) 0) (get_or c (2 * i + 1) 0) else get_or c (2 * i) 0
+narrowed_at c i = when ltb (2 * i + 1) (length c) then mean_of (get_or c (2 * i) 0) (get_or c (2 * i + 1) 0) else get_or c (2 * i) 0
 
 -- c narrowed, computed: the line of the words and no other (`proofs/Rules.antt: narrowed-exactly`)
 abbrev pub narrowed : List ℕ → List ℕ

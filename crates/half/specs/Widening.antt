@@ -1,7 +1,7 @@
 -- "of n chroma bytes, output 2i is the whole number nearest (3c[i] + c[i-1])/4 and output 2i+1 the one nearest (3c[i] + c[i+1])/4, halves upward, a
 -- neighbour past either end being the end byte." (02, W13). Definitions and relations only.
 use Rattle.std.specs.Prelude.{ℕ, ◌+◌, ◌-◌, ◌*◌, ◌/◌, ◌%◌, ◌<◌, min, ◌≡◌, List, ltb, get_or, length}
-use Rattle.notation.specs.Choice.{if◌then◌else◌}
+use Rattle.notation.specs.Choice.{when◌then◌else◌}
 use Rattle.nearest.specs.Nearest.{Nearest, ⟨◌-◌⟩/◌, byte_of}
 use Rattle.half.specs.Lines.{line}
 use Rattle.half.specs.Twice.{FitsTwice}
@@ -31,7 +31,7 @@ widened_at c j = mix_of (get_or c (j / 2) 0) (get_or c (beside_of (length c) j) 
 
 -- an output by itself: 0 where n bytes have none, past 2n
 abbrev pub output_at : List ℕ → ℕ → ℕ
-output_at c j = if ltb (j / 2) (length c) then widened_at c j else 0
+output_at c j = when ltb (j / 2) (length c) then widened_at c j else 0
 
 -- c widened to m bytes, computed: for m that fits it is the line of the words and no other (`proofs/Rules.antt: widened-exactly`)
 abbrev pub widened : List ℕ → ℕ → List ℕ

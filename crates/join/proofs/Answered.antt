@@ -7,7 +7,7 @@ use mathlib.Core.Logic.{◌↔◌, ◌⊎◌, ⊎_elim}
 use native.Mathlib.Omega.{arith}
 use lib.Dec.{eqb}
 use borrow.Author.Tests.{eqb-true, eqb-false, eq-eqb, ne_eqb, leb-true, leb-false, le-leb, lt-leb}
-use Rattle.notation.specs.Choice.{if◌then◌else◌}
+use Rattle.notation.specs.Choice.{when◌then◌else◌}
 use Rattle.notation.specs.declared.Answer.{Answer}
 use Rattle.notation.proofs.Tests.{both-exactly, one-fails}
 use Rattle.list.specs.Answer.{paper}
@@ -79,8 +79,8 @@ module _ (p q : Plan) where
 -- a verdict is read back from 01's answer for it
 abbrev pub back : Answer → Verdict
 back a =
-    if eqb a.number 10 then Malformed
-    else if eqb a.number 5 then Misfit a.position
+    when eqb a.number 10 then Malformed
+    else when eqb a.number 5 then Misfit a.position
     else Passes a.width
 
 pub reads-back : (v : Verdict) → back (paper v) ≡ v

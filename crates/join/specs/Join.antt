@@ -1,7 +1,7 @@
 -- "Refusals: 10 for either list or a joint count above 32; then 5, at the position in the joined order, where the first list fails, else at the first
 -- list's count where the first's end width is not the second's start width, else where the second list fails." (02, W12)
 use Rattle.std.specs.Prelude.{ℕ, ◌+◌, Bool, ◌&&◌, ◌++◌, eqb, leb}
-use Rattle.notation.specs.Choice.{if◌then◌else◌}
+use Rattle.notation.specs.Choice.{when◌then◌else◌}
 use Rattle.list.specs.Check.{check_of}
 use Rattle.list.specs.Lists.{lawful, no_list, ops_of, plan_of}
 use Rattle.list.specs.declared.Plan.{Plan}
@@ -17,7 +17,7 @@ behind n (Misfit i) = Misfit (n + i)
 
 -- where the first list ends at width w
 abbrev pub meeting : ℕ → Plan → Plan → Verdict
-meeting w p q = if eqb w q.start then behind p.count (check_of q) else Misfit p.count
+meeting w p q = when eqb w q.start then behind p.count (check_of q) else Misfit p.count
 
 -- after what the check says of the first
 abbrev pub after_first : Verdict → Plan → Plan → Verdict
@@ -31,7 +31,7 @@ joinable p q = lawful p && (lawful q && leb (p.count + q.count) 32)
 
 -- "10 .. then 5"
 abbrev pub verdict_of : Plan → Plan → Verdict
-verdict_of p q = if joinable p q then after_first (check_of p) p q else Malformed
+verdict_of p q = when joinable p q then after_first (check_of p) p q else Malformed
 
 -- the first list's ops and then the second's, from the first's start width. "A refused join is the empty list with width 0."
 abbrev pub joined_by : Verdict → Plan → Plan → Plan

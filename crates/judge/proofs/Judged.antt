@@ -5,7 +5,7 @@ use mathlib.Core.Path.{◌≡◌, refl}
 use mathlib.Core.Logic.{⊎_elim}
 use native.Mathlib.Omega.{arith}
 use lib.Dec.{eqb}
-use Rattle.notation.specs.Choice.{if◌then◌else◌}
+use Rattle.notation.specs.Choice.{when◌then◌else◌}
 use Rattle.notation.specs.declared.Answer.{Answer}
 use Rattle.list.specs.Lists.{ops_of, Lawful, Unlawful}
 use Rattle.list.specs.Fits.{Fits, FailsAt}
@@ -47,9 +47,9 @@ module _ (p : Plan) where
 -- a judgement is read back from 01's answer for it
 abbrev pub back : Answer → Judgement
 back a =
-    if eqb a.number 10 then Malformed
-    else if eqb a.number 5 then Misfit a.position
-    else if eqb a.number 6 then NotCarried a.position
+    when eqb a.number 10 then Malformed
+    else when eqb a.number 5 then Misfit a.position
+    else when eqb a.number 6 then NotCarried a.position
     else Ready a.width
 
 pub reads-back : (j : Judgement) → back (paper j) ≡ j

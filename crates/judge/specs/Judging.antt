@@ -1,6 +1,6 @@
 -- Every refusal of a run that the list alone decides. "Order: .. run 10, 4, 5, 6" (01, Refusal numbers), 4 apart. Definitions only.
 use Rattle.std.specs.Prelude.{ℕ, ◌+◌, List, [], ◌∷◌}
-use Rattle.notation.specs.Choice.{if◌then◌else◌}
+use Rattle.notation.specs.Choice.{when◌then◌else◌}
 use Rattle.notation.specs.Answers.{answer}
 use Rattle.notation.specs.declared.Answer.{Answer}
 use Rattle.op.specs.Widths.{carried_of}
@@ -25,7 +25,7 @@ paper (NotCarried i) = answer 6 i 0
 -- "6 | run: an op is not carried | .. the first such position": of ops of which the first stands at i
 abbrev pub uncarried_from : ℕ → List Op → Uncarried
 uncarried_from i [] = Nowhere
-uncarried_from i (o ∷ os) = if carried_of o then uncarried_from (i + 1) os else At i
+uncarried_from i (o ∷ os) = when carried_of o then uncarried_from (i + 1) os else At i
 
 -- 10 and 5, which the width check tells, before 6
 abbrev pub judge_by : Verdict → Uncarried → Judgement

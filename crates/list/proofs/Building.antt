@@ -8,7 +8,7 @@ use mathlib.Core.Logic.{inl, inr, ⊎_elim}
 use native.Mathlib.Omega.{arith}
 use lib.ListN.{length, set, take, drop, replicate, length-append, length-map, length-replicate, length-take, replicate-append-replicate}
 use lib.Seq.{drop_at, length-take-le, set_at, take_at}
-use Rattle.notation.specs.Choice.{if◌then◌else◌}
+use Rattle.notation.specs.Choice.{when◌then◌else◌}
 use Rattle.op.specs.declared.Op.{Op}
 use Rattle.op.specs.declared.Op.TheVariants as O
 use Rattle.list.specs.Ends.{end_from}
@@ -34,7 +34,7 @@ pub is_true_lem : (s : ℕ) (os : List Op) → is_true (plan_of s os) ≡ true
 is_true_lem s os = (true-exactly (plan_of s os)).1 (plan-true s os)
 
 module _ (s : ℕ) (os bs : List Op) where
-  append-planned : appended (plan_of s os) bs ≡ (if well_formed s (length os) then list_of s (os ++ bs) else no_list)
+  append-planned : appended (plan_of s os) bs ≡ (when well_formed s (length os) then list_of s (os ++ bs) else no_list)
   unfolding appended
   append-planned = rw (is_true_lem s os, and-true (well_formed s (length os)), ops-of s os)
 

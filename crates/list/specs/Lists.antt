@@ -2,7 +2,7 @@
 -- in handed ones they are not read, nor compared when lists are called the same." (01, Refusal numbers). "Every list now holds its end width,
 -- worked out from its start width, count and ops alone, 0 where document 01's 10 or 5 refuses these". (02, W8)
 use Rattle.std.specs.Prelude.{ℕ, ◌-◌, ◌≤◌, ◌<◌, ◌≡◌, Bool, ◌&&◌, ◌||◌, ◌⊎◌, List, [], ◌++◌, map, eqb, leb, replicate, take, length}
-use Rattle.notation.specs.Choice.{if◌then◌else◌}
+use Rattle.notation.specs.Choice.{when◌then◌else◌}
 use Rattle.op.specs.declared.Op.{Op}
 use Rattle.op.specs.declared.Op.TheVariants as O
 use Rattle.list.specs.Ends.{end_from}
@@ -29,7 +29,7 @@ Unformed start count = (¬ ((start ≡ 1) ⊎ (start ≡ 3))) ⊎ (32 < count)
 
 -- the end width: 0 where 10 refuses the start width or the count, and where 5 refuses an op
 abbrev pub end_of : ℕ → ℕ → List Op → ℕ
-end_of start count os = if well_formed start count then end_from start os else 0
+end_of start count os = when well_formed start count then end_from start os else 0
 
 -- a list's end width is true where it is that; the test, and in words
 unfoldable pub is_true : Plan → Bool
@@ -66,8 +66,8 @@ no_list = plan_of 0 []
 
 -- the list of these ops, or none where 10 would refuse it
 abbrev pub list_of : ℕ → List Op → Plan
-list_of start os = if well_formed start (length os) then plan_of start os else no_list
+list_of start os = when well_formed start (length os) then plan_of start os else no_list
 
 -- a handed list and these ops behind its own
 unfoldable pub appended : Plan → List Op → Plan
-appended p os = if lawful p then list_of p.start (ops_of p ++ os) else no_list
+appended p os = when lawful p then list_of p.start (ops_of p ++ os) else no_list

@@ -7,7 +7,7 @@ use mathlib.Core.List.{List, [], ◌∷◌, ◌++◌}
 use native.Mathlib.Omega.{arith}
 use lib.Dec.{eqb, ltb}
 use lib.ListN.{length, length-append}
-use Rattle.notation.specs.Choice.{if◌then◌else◌}
+use Rattle.notation.specs.Choice.{when◌then◌else◌}
 use Rattle.notation.specs.Text.{ascii}
 use Rattle.list.specs.Lists.{ops_of, Lawful}
 use Rattle.op.specs.Retired.{is_unknown}
@@ -24,7 +24,7 @@ use Rattle.listing.specs.Words.{title_of, decimal, counted, ending}
 use Rattle.listing.specs.Listing.{first_line, op_line, op_lines, lines, list_text, plan_text, block_text, text_of}
 use Rattle.list.proofs.Bounds.{passes-lawful, misfit-lawful}
 
-either : {A : Type 0} (P : A → Type 0) (b : Bool) {x y : A} → P x → P y → P (if b then x else y)
+either : {A : Type 0} (P : A → Type 0) (b : Bool) {x y : A} → P x → P y → P (when b then x else y)
 either P true p q = p
 either P false p q = q
 

@@ -1,6 +1,6 @@
 -- "A read refusal prints `refused N` alone; a width refusal replaces the last line by `refused 5 at P`." (01, Plan block). Definitions only.
 use Rattle.std.specs.Prelude.{ℕ, ◌+◌, List, [], ◌∷◌, ◌++◌, eqb}
-use Rattle.notation.specs.Choice.{if◌then◌else◌}
+use Rattle.notation.specs.Choice.{when◌then◌else◌}
 use Rattle.notation.specs.Text.{ascii}
 use Rattle.list.specs.Lists.{ops_of}
 use Rattle.op.specs.declared.Op.{Op}
@@ -45,7 +45,7 @@ plan_text p = list_text p (check_of p)
 
 -- "a read refusal prints `refused N` alone"
 abbrev pub block_text : Block → List ℕ
-block_text b = if eqb (paper b.answer).number 0 then plan_text b.plan else refusal (paper b.answer).number
+block_text b = when eqb (paper b.answer).number 0 then plan_text b.plan else refusal (paper b.answer).number
 
 -- what is printed for these bytes
 abbrev pub text_of : List ℕ → List ℕ

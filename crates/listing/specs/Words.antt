@@ -1,6 +1,6 @@
 -- What the lines are made of: the names of the ops, and numbers in decimal. (01, Plan block; 02, W10). Definitions only.
 use Rattle.std.specs.Prelude.{ℕ, ◌+◌, ◌/◌, ◌%◌, List, [], ◌∷◌, ◌++◌, ltb}
-use Rattle.notation.specs.Choice.{if◌then◌else◌}
+use Rattle.notation.specs.Choice.{when◌then◌else◌}
 use Rattle.notation.specs.Text.{ascii}
 use Rattle.op.specs.Retired.{is_retired}
 use Rattle.op.specs.declared.Op.{Op}
@@ -21,7 +21,7 @@ name_of O.Clip = ascii "Clip"
 
 -- "the list program adds the word `retired` after the op's name" (02, W10)
 abbrev pub mark_of : Op → List ℕ
-mark_of o = if is_retired o then ascii " retired" else []
+mark_of o = when is_retired o then ascii " retired" else []
 
 abbrev pub title_of : Op → List ℕ
 title_of o = name_of o ++ mark_of o
@@ -32,7 +32,7 @@ digit d = 48 + d
 
 -- a number below a hundred, as all are that are printed
 abbrev pub decimal : ℕ → List ℕ
-decimal n = if ltb n 10 then digit n ∷ [] else digit (n / 10) ∷ digit (n % 10) ∷ []
+decimal n = when ltb n 10 then digit n ∷ [] else digit (n / 10) ∷ digit (n % 10) ∷ []
 
 -- words and then a number; the same as the end of a line
 abbrev pub counted : List ℕ → ℕ → List ℕ

@@ -5,7 +5,7 @@ use mathlib.Core.Bool.{Bool, true, false}
 use mathlib.Core.Logic.{◌↔◌}
 use native.Mathlib.Omega.{arith}
 use Prim.Native.Nat.{ℕ}
-use Rattle.notation.specs.Choice.{if◌then◌else◌}
+use Rattle.notation.specs.Choice.{when◌then◌else◌}
 use Rattle.notation.specs.Answers.{answer}
 use Rattle.notation.specs.declared.Answer.{Answer}
 use Rattle.list.specs.Lists.{no_list, lawful, Lawful, Unlawful}
@@ -14,15 +14,15 @@ use Rattle.list.proofs.Formed.{lawful-exactly, unlawful-exactly}
 use Rattle.merge.specs.Merge.{paper, merge_of}
 
 module _ (p : Plan) where
-  answered : (b : Bool) → lawful p ≡ b → paper (merge_of p).answer ≡ (if b then answer 0 0 0 else answer 10 0 0)
+  answered : (b : Bool) → lawful p ≡ b → paper (merge_of p).answer ≡ (when b then answer 0 0 0 else answer 10 0 0)
   answered true e = rw e
   answered false e = rw e
 
-  ten-or-zero : (b : Bool) → answer 10 0 0 ≡ (if b then answer 0 0 0 else answer 10 0 0) → b ≡ false
+  ten-or-zero : (b : Bool) → answer 10 0 0 ≡ (when b then answer 0 0 0 else answer 10 0 0) → b ≡ false
   ten-or-zero true e = let z : ◌≡◌ {A = ℕ} 10 0 = ap (λ (a : Answer). a.number) e in absurd (omega arith)
   ten-or-zero false e = refl
 
-  zero-or-ten : (b : Bool) → answer 0 0 0 ≡ (if b then answer 0 0 0 else answer 10 0 0) → b ≡ true
+  zero-or-ten : (b : Bool) → answer 0 0 0 ≡ (when b then answer 0 0 0 else answer 10 0 0) → b ≡ true
   zero-or-ten true e = refl
   zero-or-ten false e = let z : ◌≡◌ {A = ℕ} 0 10 = ap (λ (a : Answer). a.number) e in absurd (omega arith)
 

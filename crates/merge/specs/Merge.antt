@@ -1,7 +1,7 @@
 -- "Merging: each longest run of matrices M1..Mk becomes one, P1 = M1 and Pi = matmul3(Mi, P(i-1)), in the run's first place.
 -- Other ops keep their order." (01, Planning)
 use Rattle.std.specs.Prelude.{List, [], ◌∷◌, map}
-use Rattle.notation.specs.Choice.{if◌then◌else◌}
+use Rattle.notation.specs.Choice.{when◌then◌else◌}
 use Rattle.notation.specs.Answers.{answer}
 use Rattle.notation.specs.declared.Answer.{Answer}
 use Rattle.ciexyz.specs.Matrix.{product}
@@ -37,6 +37,6 @@ paper Malformed = answer 10 0 0
 -- Refusal 10: "merge: empty list, width 0"
 abbrev pub merge_of : Plan → Merged
 merge_of p =
-    if lawful p
+    when lawful p
     then record { answer = Done; plan = plan_of p.start (merge_ops (ops_of p)) }
     else record { answer = Malformed; plan = no_list }

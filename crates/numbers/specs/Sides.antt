@@ -1,6 +1,6 @@
 -- Which encoding fourteen numbers mean, as it is read: number by number, from tables. Definitions only.
 use Rattle.std.specs.Prelude.{ℕ, ◌+◌, Bool, not, ◌&&◌, ◌||◌, List, [], ◌∷◌, eqb, leb, ltb, ℤ, pos, negsuc, get_or}
-use Rattle.notation.specs.Choice.{if◌then◌else◌}
+use Rattle.notation.specs.Choice.{when◌then◌else◌}
 use Rattle.ciexyz.specs.declared.Millionths.{Millionths}
 use Rattle.ciexyz.specs.declared.WhitePoint.{WhitePoint}
 use Rattle.ciexyz.specs.declared.WhitePoint.TheVariants as W
@@ -78,6 +78,6 @@ encoding_in ns = record {
 -- "4 an ICC profile"; "Numbers that are none of the table's" mean nothing
 abbrev pub side_of : List ℤ → Side
 side_of ns =
-    if eqb (natural_at ns 0) 4 then Means E.IccProfile
-    else if not (in_tables ns) then Nothing
+    when eqb (natural_at ns 0) 4 then Means E.IccProfile
+    else when not (in_tables ns) then Nothing
     else Means (E.Enum (encoding_in ns))

@@ -1,11 +1,11 @@
 -- "Curves: 0 Gamma, 1 Gamma inverted, 2 Bt709, 3 Unknown, 4 Linear, 5 Srgb, 6 Pq, 7 Dci, 8 Hlg." (01, Plan block). Definitions only.
 use Rattle.std.specs.Prelude.{ℕ, true, false, List, [], ◌∷◌, get_or}
-use Rattle.notation.specs.Choice.{if◌then◌else◌}
+use Rattle.notation.specs.Choice.{when◌then◌else◌}
 use Rattle.op.specs.declared.Curve.{Curve}
 use Rattle.op.specs.declared.Curve.TheVariants as C
 
 abbrev pub curve_number : Curve → ℕ
-curve_number (C.Gamma g inverted) = if inverted then 1 else 0
+curve_number (C.Gamma g inverted) = when inverted then 1 else 0
 curve_number C.Bt709 = 2
 curve_number C.Unknown = 3
 curve_number C.Linear = 4

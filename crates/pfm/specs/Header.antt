@@ -1,7 +1,7 @@
 -- The header of a portable float map, byte by byte: "PF" for three channels or "Pf" for one, the width, the height, and a scale that is negative where
 -- samples are little-endian; white space between them, and one white space behind the scale. Definitions only.
 use Rattle.std.specs.Prelude.{ℕ, ◌+◌, ◌-◌, ◌*◌, Bool, true, false, not, ◌&&◌, ◌||◌, List, [], ◌∷◌, eqb, leb, ltb}
-use Rattle.notation.specs.Choice.{if◌then◌else◌}
+use Rattle.notation.specs.Choice.{when◌then◌else◌}
 use Rattle.pfm.specs.declared.headers.Header.{Header}
 use Rattle.pfm.specs.declared.headers.Numbers.{Numbers}
 use Rattle.pfm.specs.declared.headers.Size.{Size}
@@ -18,15 +18,15 @@ is_space c = eqb c 32 || (leb 9 c && leb c 13)
 
 -- white space before a number is passed over, and behind it ends it; no size is 0
 abbrev pub space_by : Bool → ℕ → Size
-space_by begun n = if not begun then Waits else if eqb n 0 then Wrong else Ends
+space_by begun n = when not begun then Waits else when eqb n 0 then Wrong else Ends
 
 -- a digit makes ten times the number and itself, up to 2^31 - 1
 abbrev pub size_by : Bool → ℕ → ℕ → Size
 size_by begun n c =
-    if is_space c then space_by begun n
-    else if ltb c 48 then Wrong
-    else if ltb 57 c then Wrong
-    else if ltb 0x7fff_ffff (10 * n + (c - 48)) then Wrong
+    when is_space c then space_by begun n
+    else when ltb c 48 then Wrong
+    else when ltb 57 c then Wrong
+    else when ltb 0x7fff_ffff (10 * n + (c - 48)) then Wrong
     else Grows (10 * n + (c - 48))
 
 abbrev pub at : Stage → Numbers → Header
@@ -34,19 +34,19 @@ at stage n = record { stage = stage; numbers = n }
 
 -- "PF" or "Pf"
 abbrev pub on_start : Numbers → ℕ → Header
-on_start n c = at (if eqb c 80 then Kind else NotPfm) n
+on_start n c = at (when eqb c 80 then Kind else NotPfm) n
 
 abbrev pub with_channels : Numbers → ℕ → Numbers
 with_channels n k = record { channels = k; width = n.width; height = n.height; little = n.little; nonzero = n.nonzero; sized = n.sized; used = n.used }
 
 abbrev pub on_kind : Numbers → ℕ → Header
 on_kind n c =
-    if eqb c 70 then at Marked (with_channels n 3)
-    else if eqb c 102 then at Marked (with_channels n 1)
+    when eqb c 70 then at Marked (with_channels n 3)
+    else when eqb c 102 then at Marked (with_channels n 1)
     else at NotPfm n
 
 abbrev pub on_marked : Numbers → ℕ → Header
-on_marked n c = at (if is_space c then BeforeWidth else NotPfm) n
+on_marked n c = at (when is_space c then BeforeWidth else NotPfm) n
 
 abbrev pub on_width : Numbers → Size → Header
 on_width n (Grows w) = at Width (record { channels = n.channels; width = w; height = n.height; little = n.little; nonzero = n.nonzero; sized = n.sized; used = n.used })
@@ -64,20 +64,20 @@ on_height n place Wrong = at BadSize n
 -- the scale: digits, of which one is not 0, and white space behind them
 abbrev pub on_scale : Numbers → ℕ → ℕ → Stage → Header
 on_scale n place c stage =
-    if is_digit c then at stage (record { channels = n.channels; width = n.width; height = n.height; little = n.little; nonzero = n.nonzero || not (eqb c 48); sized = n.sized; used = n.used })
-    else if not (is_space c) then at BadScale n
-    else if not n.nonzero then at BadScale n
+    when is_digit c then at stage (record { channels = n.channels; width = n.width; height = n.height; little = n.little; nonzero = n.nonzero || not (eqb c 48); sized = n.sized; used = n.used })
+    else when not (is_space c) then at BadScale n
+    else when not n.nonzero then at BadScale n
     else at Done (record { channels = n.channels; width = n.width; height = n.height; little = n.little; nonzero = n.nonzero; sized = n.sized; used = place })
 
 -- a point among them
 abbrev pub on_whole : Numbers → ℕ → ℕ → Header
-on_whole n place c = if eqb c 46 then at Fraction n else on_scale n place c Whole
+on_whole n place c = when eqb c 46 then at Fraction n else on_scale n place c Whole
 
 -- and a minus before them
 abbrev pub on_sign : Numbers → ℕ → ℕ → Header
 on_sign n place c =
-    if is_space c then at BeforeScale n
-    else if eqb c 45 then at Whole (record { channels = n.channels; width = n.width; height = n.height; little = true; nonzero = n.nonzero; sized = n.sized; used = n.used })
+    when is_space c then at BeforeScale n
+    else when eqb c 45 then at Whole (record { channels = n.channels; width = n.width; height = n.height; little = true; nonzero = n.nonzero; sized = n.sized; used = n.used })
     else on_whole n place c
 
 abbrev pub step_by : Stage → Header → ℕ → ℕ → Header

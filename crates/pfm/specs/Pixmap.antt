@@ -1,6 +1,6 @@
 -- The pixels of a portable pixmap (PPM): the bytes of red, green and blue one behind the other. Definitions only.
 use Rattle.std.specs.Prelude.{ℕ, List, [], ◌∷◌, length}
-use Rattle.notation.specs.Choice.{if◌then◌else◌}
+use Rattle.notation.specs.Choice.{when◌then◌else◌}
 use Rattle.channels.specs.Channels.{zip3}
 use Rattle.writer.specs.Bytes.{joined}
 use Rattle.pfm.specs.Samples.{fits_by}
@@ -21,4 +21,4 @@ pixels_of r g b = joined three_bytes (zip3 pixel r g b)
 
 -- three bytes a pixel
 abbrev pub pixels_left : List ℕ → List ℕ → List ℕ → List ℕ → List ℕ
-pixels_left r g b old = if fits_by 3 (length old) (length r) (length g) (length b) then pixels_of r g b else old
+pixels_left r g b old = when fits_by 3 (length old) (length r) (length g) (length b) then pixels_of r g b else old

@@ -3,7 +3,7 @@
 use Rattle.std.specs.Prelude.{ℕ, zero, suc, ◌+◌, ◌*◌, Bool, ◌&&◌, List, [], ◌∷◌, ◌++◌, reverse, eqb, Float, length, replicate}
 use Rattle.std.specs.Float.{binary32}
 use Rattle.std.specs.Float.Ieee.{to_bits}
-use Rattle.notation.specs.Choice.{if◌then◌else◌}
+use Rattle.notation.specs.Choice.{when◌then◌else◌}
 use Rattle.notation.specs.F32 as F32
 use Rattle.notation.specs.F32.{bits}
 use Rattle.ciexyz.specs.declared.Vec3.{Vec3}
@@ -19,7 +19,7 @@ abbrev pub high_first : List ℕ → ℕ → ℕ
 high_first s at = byte_at s (at + 3) + 0x100 * byte_at s (at + 2) + 0x1_0000 * (byte_at s (at + 1) + 0x100 * byte_at s at)
 
 abbrev pub word_at : Bool → List ℕ → ℕ → ℕ
-word_at little s at = if little then low_first s at else high_first s at
+word_at little s at = when little then low_first s at else high_first s at
 
 unfoldable pub sample_at : Bool → List ℕ → ℕ → Float
 sample_at little s at = bits (word_at little s at)
@@ -43,22 +43,22 @@ fits size s ch = fits_by size (length s) (length ch.a) (length ch.b) (length ch.
 -- what is taken from bytes: three channels, or one with two that are zeros
 abbrev pub three_from : Bool → List ℕ → Channels → Channels
 three_from little s ch =
-    if fits 12 s ch then channels (channel_in little s 12 0 (length ch.a)) (channel_in little s 12 4 (length ch.a)) (channel_in little s 12 8 (length ch.a)) else ch
+    when fits 12 s ch then channels (channel_in little s 12 0 (length ch.a)) (channel_in little s 12 4 (length ch.a)) (channel_in little s 12 8 (length ch.a)) else ch
 
 abbrev pub one_from : Bool → List ℕ → Channels → Channels
 one_from little s ch =
-    if fits 4 s ch then channels (channel_in little s 4 0 (length ch.a)) (replicate (length ch.a) F32.zero) (replicate (length ch.a) F32.zero) else ch
+    when fits 4 s ch then channels (channel_in little s 4 0 (length ch.a)) (replicate (length ch.a) F32.zero) (replicate (length ch.a) F32.zero) else ch
 
 -- by the number of channels that a header names
 abbrev pub size_of : ℕ → ℕ
-size_of count = if eqb count 3 then 12 else 4
+size_of count = when eqb count 3 then 12 else 4
 
 abbrev pub channels_from : ℕ → Bool → List ℕ → Channels → Channels
-channels_from count little s ch = if eqb count 3 then three_from little s ch else one_from little s ch
+channels_from count little s ch = when eqb count 3 then three_from little s ch else one_from little s ch
 
 -- a sample's four bytes, and those of a pixel of three channels
 abbrev pub word_bytes : Bool → ℕ → List ℕ
-word_bytes little n = if little then u32_bytes n else reverse (u32_bytes n)
+word_bytes little n = when little then u32_bytes n else reverse (u32_bytes n)
 
 abbrev pub sample_bytes : Bool → Float → List ℕ
 sample_bytes little x = word_bytes little (to_bits binary32 x)
@@ -68,10 +68,10 @@ pixel_bytes little v = sample_bytes little v.v0 ++ (sample_bytes little v.v1 ++ 
 
 -- what becomes of bytes that samples are put into
 abbrev pub three_to : Bool → Channels → List ℕ → List ℕ
-three_to little ch old = if fits 12 old ch then joined (pixel_bytes little) (triples ch.a ch.b ch.c) else old
+three_to little ch old = when fits 12 old ch then joined (pixel_bytes little) (triples ch.a ch.b ch.c) else old
 
 abbrev pub fits_one : List ℕ → List Float → Bool
 fits_one s a = eqb (length s) (length a * 4)
 
 abbrev pub one_to : Bool → List Float → List ℕ → List ℕ
-one_to little a old = if fits_one old a then joined (sample_bytes little) a else old
+one_to little a old = when fits_one old a then joined (sample_bytes little) a else old

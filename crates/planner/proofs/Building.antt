@@ -7,7 +7,7 @@ use mathlib.Core.List.{List, [], ◌++◌}
 use mathlib.Core.Logic.{◌⊎◌, inl, inr}
 use native.Mathlib.Omega.{arith}
 use lib.ListN.{length}
-use Rattle.notation.specs.Choice.{if◌then◌else◌}
+use Rattle.notation.specs.Choice.{when◌then◌else◌}
 use Rattle.list.specs.Lists.{plan_of, appended, Lawful}
 use Rattle.op.specs.declared.Op.{Op}
 use Rattle.list.specs.declared.Plan.{Plan}
@@ -31,7 +31,7 @@ five p a b c d e =
 
 -- one channel or three
 abbrev pub wide : Bool → ℕ
-wide grey = if grey then 1 else 3
+wide grey = when grey then 1 else 3
 
 pub one_or_three : (e : EnumColourEncoding) → (channels_of e ≡ 1) ⊎ (channels_of e ≡ 3)
 one_or_three e = by (same_space e.colour_space S.Grey)

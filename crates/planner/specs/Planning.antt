@@ -1,6 +1,6 @@
 -- What planning answers. "Order: planning 1, 2, equivalence, 3." (01, Refusal numbers). "15 in planning, after 2 and before equivalence". (02, W10)
 use Rattle.std.specs.Prelude.{ℕ, Bool, not, ◌&&◌, ◌||◌, List, []}
-use Rattle.notation.specs.Choice.{if◌then◌else◌}
+use Rattle.notation.specs.Choice.{when◌then◌else◌}
 use Rattle.notation.specs.Answers.{answer}
 use Rattle.notation.specs.declared.Answer.{Answer}
 use Rattle.list.specs.Lists.{plan_of, no_list}
@@ -56,10 +56,10 @@ unsupported source target =
 -- "Equivalent sides give an empty list, start width 1 for a Grey source, else 3. [..] A plan is merged last."
 abbrev pub planned : EnumColourEncoding → EnumColourEncoding → Settings → Planned
 planned source target settings =
-    if out_of_range source target then refusal OutOfRange
-    else if retired source target then refusal Retired
-    else if equivalent source target then done (channels_of source) []
-    else if unsupported source target then refusal Unsupported
+    when out_of_range source target then refusal OutOfRange
+    else when retired source target then refusal Retired
+    else when equivalent source target then done (channels_of source) []
+    else when unsupported source target then refusal Unsupported
     else done (channels_of source) (merge_ops (stage_ops source target settings))
 
 abbrev pub planned_of : ColourEncoding → ColourEncoding → Settings → Planned

@@ -6,7 +6,7 @@ use mathlib.Core.Bool.{Bool, true, false}
 use native.Mathlib.Nat.{le_of_eq, lt_of_lt_of_le}
 use lib.Dec.{eqb}
 use lib.ListN.{length}
-use Rattle.notation.specs.Choice.{if◌then◌else◌}
+use Rattle.notation.specs.Choice.{when◌then◌else◌}
 use Rattle.weights.specs.Weights.{bt709, t871}
 use Rattle.weights.specs.Rgb.{Bytes, rgb_of}
 use Rattle.firmware.specs.Firmware.{weights_of}
@@ -19,7 +19,7 @@ use Rattle.luma.proofs.ThereAndBack.{balanced_bt709, balanced_t871, there_and_ba
 balanced_of : (firmware : ℕ) → Balanced (weights_of firmware)
 balanced_of firmware = by (eqb firmware 4)
   where
-    by : (is-four : Bool) → Balanced (if is-four then bt709 else t871)
+    by : (is-four : Bool) → Balanced (when is-four then bt709 else t871)
     by true = balanced_bt709
     by false = balanced_t871
 

@@ -9,7 +9,7 @@ use borrow.Author.Tests.{eqb-true}
 use lib.Dec.{eqb}
 use lib.ListN.{length, take, drop, length-take}
 use lib.Seq.{take-add, take-suc}
-use Rattle.notation.specs.Choice.{if◌then◌else◌}
+use Rattle.notation.specs.Choice.{when◌then◌else◌}
 use Rattle.notation.specs.Text.{ascii}
 use Rattle.notation.specs.Answers.{answer}
 use Rattle.notation.proofs.Tests.{fails_exactly}
@@ -58,7 +58,7 @@ module _ (s : List ℕ) (b : AreBytes s) where
   end-written : (end : ℕ) → GoodHead s → (version_of s ≡ 2 → byte_at s 7 ≡ end) → take 7 s ++ end_bytes (version_of s) end ≡ take (head_of (version_of s)) s
   end-written end g told = by (eqb (version_of s) 2) refl
     where
-      by : (c : Bool) → eqb (version_of s) 2 ≡ c → take 7 s ++ (if c then end ∷ [] else []) ≡ take (if c then 8 else 7) s
+      by : (c : Bool) → eqb (version_of s) 2 ≡ c → take 7 s ++ (when c then end ∷ [] else []) ≡ take (when c then 8 else 7) s
       by true e =
           let v = eqb-true (version_of s) 2 e in
           let h : 7 < length s = omega (arith, g.all, eight (version_of s) v) in

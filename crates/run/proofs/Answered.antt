@@ -4,7 +4,7 @@ use Prim.Native.Nat.{ℕ}
 use mathlib.Core.Path.{◌≡◌, refl, ◌∙◌}
 use mathlib.Core.Bool.{Bool, true, false}
 use lib.Dec.{eqb}
-use Rattle.notation.specs.Choice.{if◌then◌else◌}
+use Rattle.notation.specs.Choice.{when◌then◌else◌}
 use Rattle.notation.specs.declared.Answer.{Answer}
 use Rattle.notation.proofs.Tests.{fails_exactly}
 use Rattle.channels.specs.Channels.{Channels, EquallyLong, equally_long}
@@ -65,10 +65,10 @@ by_calls p s e f h = h ∙ rw (e, f)
 -- an outcome is read back from 01's answer for it
 abbrev pub back : Answer → Outcome
 back a =
-    if eqb a.number 10 then Malformed
-    else if eqb a.number 4 then Unequal
-    else if eqb a.number 5 then Misfit a.position
-    else if eqb a.number 6 then NotCarried a.position
+    when eqb a.number 10 then Malformed
+    else when eqb a.number 4 then Unequal
+    else when eqb a.number 5 then Misfit a.position
+    else when eqb a.number 6 then NotCarried a.position
     else Done a.width
 
 pub reads-back : (o : Outcome) → back (paper o) ≡ o

@@ -4,7 +4,7 @@ use Prim.Native.Nat.{ℕ}
 use mathlib.Core.Path.{◌≡◌, ap, subst, sym, ◌∙◌}
 use mathlib.Core.Bool.{Bool}
 use mathlib.Core.List.{List, [], ◌∷◌, ◌++◌}
-use Rattle.notation.specs.Choice.{if◌then◌else◌}
+use Rattle.notation.specs.Choice.{when◌then◌else◌}
 use Rattle.channels.specs.Channels.{Channels, EquallyLong}
 use Rattle.channels.specs.declared.Stepping.TheVariants as Step
 use Rattle.channels.proofs.Lengths.{equal_exactly}
@@ -37,7 +37,7 @@ ops-even w (o ∷ os) s e = ops-even (gives_of o w) os (after_op o w s) (after-e
 -- of equally long channels an own step reports the count that it leaves
 own_count : (o : Op) (v : ℕ) (t : Channels) → EquallyLong t → count_of (gives_of o v) (after_op o v t) ≡ (own_step o v t).bad
 own_count o v t e =
-    ap (λ (b : Bool). (report_of (if b then Step.Done (gives_of o v) else Step.Unequal) (if b then after_op o v t else t)).bad) (sym ((equal_exactly t).1 e))
+    ap (λ (b : Bool). (report_of (when b then Step.Done (gives_of o v) else Step.Unequal) (when b then after_op o v t else t)).bad) (sym ((equal_exactly t).1 e))
 
 pub last_step : (p : Plan) (os : List Op) (o : Op) (v w : ℕ) (s : Channels) → ops_of p ≡ os ++ (o ∷ []) → Fits p.start os v → Done w ≡ outcome_of p s
     → (reported_of p s).bad ≡ (own_step o v (run_ops p.start os s)).bad

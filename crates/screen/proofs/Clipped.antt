@@ -12,7 +12,7 @@ use lib.Ieee.{Float, nan, inf, fin, binary32, up, down, lt, fits, of_bits}
 use lib.Ieee.Bits.{of_bits-fits}
 use lib.Ieee.Fits.{up_pos}
 use Rattle.notation.specs.F32.{zero, one}
-use Rattle.notation.specs.Choice.{if◌then◌else◌}
+use Rattle.notation.specs.Choice.{when◌then◌else◌}
 use Rattle.steps.specs.Samples.{clip_of}
 
 abbrev pub Clipped : Float → Type 0
@@ -41,7 +41,7 @@ pub clipped-is : (x : Float) → Clipped (clip_of x)
 unfolding of_bits
 clipped-is x = by (lt x zero) (lt one x) refl refl
   where
-    by : (s t : Bool) → lt x zero ≡ s → lt one x ≡ t → Clipped (if s then zero else if t then one else x)
+    by : (s t : Bool) → lt x zero ≡ s → lt one x ≡ t → Clipped (when s then zero else when t then one else x)
     by true t h k = omega arith
     by false true h k = omega arith
     by false false h k = stays x h k
@@ -53,7 +53,7 @@ clipped-le false m e c = c
 pub clipped-fits : (x : Float) → T (fits binary32 x) → T (fits binary32 (clip_of x))
 clipped-fits x f = by (lt x zero) (lt one x)
   where
-    by : (s t : Bool) → T (fits binary32 (if s then zero else if t then one else x))
+    by : (s t : Bool) → T (fits binary32 (when s then zero else when t then one else x))
     by true t = of_bits-fits binary32 0
     by false true = of_bits-fits binary32 0x3f80_0000
     by false false = f

@@ -10,7 +10,7 @@ use lib.Ieee.{Float, nan, inf, fin, up, down, binary32, fits, lt, of_bits}
 use lib.Ieee.Fits.{down_pos}
 use lib.Ieee.Positive.{num, den}
 use Rattle.notation.specs.F32.{bits, zero, one}
-use Rattle.notation.specs.Choice.{if◌then◌else◌}
+use Rattle.notation.specs.Choice.{when◌then◌else◌}
 use Rattle.binary32.proofs.Count.{odd_digits}
 use Rattle.steps.specs.Samples.{clip_of}
 use Rattle.screen.proofs.Clipped.{Clipped, clipped-is}
@@ -41,7 +41,7 @@ pub only_tie : (x : Float) → T (fits binary32 x) → (b : ℕ) → Tied (clip_
 unfolding of_bits
 only_tie x f b = by (lt x zero) (lt one x) (clipped-is x)
   where
-    by : (s t : Bool) → Clipped (if s then zero else if t then one else x) → Tied (if s then zero else if t then one else x) b → x ≡ half
+    by : (s t : Bool) → Clipped (when s then zero else when t then one else x) → Tied (when s then zero else when t then one else x) b → x ≡ half
     by true t c h = absurd (omega arith)
     by false true c h = absurd (omega arith)
     by false false c h = stays_tied x b f c h

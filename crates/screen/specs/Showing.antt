@@ -1,7 +1,7 @@
 -- What the conversion to screen bytes answers and leaves; it names no width. "4 | run or conversion: lent lengths unequal | no buffer changed"
 -- (01, Refusal numbers). Definitions only.
 use Rattle.std.specs.Prelude.{ℕ, Bool, List, map, eqb, Float, length}
-use Rattle.notation.specs.Choice.{if◌then◌else◌}
+use Rattle.notation.specs.Choice.{when◌then◌else◌}
 use Rattle.notation.specs.Answers.{answer}
 use Rattle.notation.specs.declared.Answer.{Answer}
 use Rattle.screen.specs.Screen.{screen_byte}
@@ -17,7 +17,7 @@ abbrev pub as_many : List Float → List ℕ → Bool
 as_many samples bytes = eqb (length samples) (length bytes)
 
 abbrev pub showing_of : List Float → List ℕ → Showing
-showing_of samples bytes = if as_many samples bytes then Done else Unequal
+showing_of samples bytes = when as_many samples bytes then Done else Unequal
 
 abbrev pub shown_of : List Float → List ℕ → List ℕ
-shown_of samples bytes = if as_many samples bytes then map screen_byte samples else bytes
+shown_of samples bytes = when as_many samples bytes then map screen_byte samples else bytes

@@ -9,7 +9,7 @@ use native.Mathlib.Omega.{arith}
 use borrow.Author.Tests.{le-leb, leb-false, leb-true, lt-leb}
 use lib.Dec.{T, le→leb, leb, leb→le}
 use lib.Ieee.Fits.{and_i, and_l, and_r}
-use Rattle.notation.specs.Choice.{if◌then◌else◌}
+use Rattle.notation.specs.Choice.{when◌then◌else◌}
 use Rattle.srgb10.specs.Curve.{IsLevel, base_of, line_end, line_of, linear, near, near_line, near_power, on_line, on_power, power_of}
 
 -- "linear part up to 0.04045 (codes 0 to 41)"
@@ -77,7 +77,7 @@ within : (a x b : ℕ) → a ≤ x → x ≤ b → T (leb a x && leb x b)
 within a x b h k = and_i (leb a x) (leb x b) (le→leb a x h) (le→leb x b k)
 
 module _ (c l : ℕ) where
-  passes : (b : Bool) → linear c ≡ b → T (if b then near_line c l else near_power c l) → IsLevel c l
+  passes : (b : Bool) → linear c ≡ b → T (when b then near_line c l else near_power c l) → IsLevel c l
   passes true e t =
       let k = between ((2 * l - 1) * (1023 * 1292)) (line_of c) ((2 * l + 1) * (1023 * 1292)) t in
       on_line (leb-true (100_000 * c) (line_end * 1023) e) k.0 k.1
@@ -85,7 +85,7 @@ module _ (c l : ℕ) where
       let k = between ((2 * l - 1) ^ 5 * (1055 * 1023) ^ 12) (power_of c) ((2 * l + 1) ^ 5 * (1055 * 1023) ^ 12) t in
       on_power (leb-false (100_000 * c) (line_end * 1023) e) k.0 k.1
 
-  holds : IsLevel c l → T (if linear c then near_line c l else near_power c l)
+  holds : IsLevel c l → T (when linear c then near_line c l else near_power c l)
   holds (on_line a p q) = rw (le-leb (100_000 * c) (line_end * 1023) a) (within ((2 * l - 1) * (1023 * 1292)) (line_of c) ((2 * l + 1) * (1023 * 1292)) p q)
   holds (on_power a p q) =
       rw (lt-leb (100_000 * c) (line_end * 1023) a) (within ((2 * l - 1) ^ 5 * (1055 * 1023) ^ 12) (power_of c) ((2 * l + 1) ^ 5 * (1055 * 1023) ^ 12) p q)

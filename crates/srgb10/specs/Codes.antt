@@ -1,13 +1,13 @@
 -- The level of a code, and "the way back: the code whose entry is nearest, the lower one on a tie" (02, W9). Definitions and relations only.
 use Rattle.std.specs.Prelude.{Bool, true, ◌&&◌, ℕ, zero, suc, ◌+◌, ◌-◌, ◌≤◌, ◌<◌, leb}
-use Rattle.notation.specs.Choice.{if◌then◌else◌}
+use Rattle.notation.specs.Choice.{when◌then◌else◌}
 use Rattle.notation.specs.First.{first}
 use Rattle.srgb10.specs.Curve.{near}
 
 -- The level of a code, looked for among all levels; "a single such code gives level 0", of one above 1023.
 -- That it is the one level of the rule is `proofs/Levels.antt: level-exactly`.
 unfoldable pub level_of : ℕ → ℕ
-level_of c = if leb c 1023 then first (near c) 65536 0 else 0
+level_of c = when leb c 1023 then first (near c) 65536 0 else 0
 
 -- how far two levels are apart: ℕ's `-` stops at 0, so one difference is 0
 abbrev pub apart : ℕ → ℕ → ℕ

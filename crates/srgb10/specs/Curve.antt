@@ -2,7 +2,7 @@
 -- State nearness over whole numbers, by comparing fifth and twelfth powers, once over the whole table." (02, W9)
 -- That curve is x / 12.92 up to 0.04045, and ((x + 0.055) / 1.055) ^ 2.4 above. Definitions and relations only.
 use Rattle.std.specs.Prelude.{◌≡◌, Bool, true, ◌&&◌, List, [], ◌∷◌, ℕ, suc, ◌+◌, ◌-◌, ◌*◌, ◌^◌, ◌≤◌, ◌<◌, T, leb, ltb, length}
-use Rattle.notation.specs.Choice.{if◌then◌else◌}
+use Rattle.notation.specs.Choice.{when◌then◌else◌}
 
 -- 0.04045 is this over 100,000
 abbrev pub line_end : ℕ
@@ -36,7 +36,7 @@ abbrev pub near_power : ℕ → ℕ → Bool
 near_power c L = leb ((2 * L - 1) ^ 5 * (1055 * 1023) ^ 12) (power_of c) && leb (power_of c) ((2 * L + 1) ^ 5 * (1055 * 1023) ^ 12)
 
 unfoldable pub near : ℕ → ℕ → Bool
-near c L = if linear c then near_line c L else near_power c L
+near c L = when linear c then near_line c L else near_power c L
 
 -- the codes from c on have these levels
 unfoldable pub right : ℕ → List ℕ → Bool

@@ -11,7 +11,7 @@ use lib.Dec.{eqb}
 use lib.Ieee.{Float}
 use lib.ListN.{length}
 use Rattle.notation.specs.Answers.{answer}
-use Rattle.notation.specs.Choice.{if◌then◌else◌}
+use Rattle.notation.specs.Choice.{when◌then◌else◌}
 use Rattle.notation.specs.Order.{none, this, later}
 use Rattle.notation.specs.Several.{any, Some}
 use Rattle.notation.specs.declared.Answer.{Answer}
@@ -25,7 +25,7 @@ use Rattle.srgb10_levels.proofs.Codes.{above-exactly}
 
 -- the answer of a number
 abbrev by_number : ℕ → Levelling
-by_number n = if eqb n 4 then Unequal else if eqb n 14 then NoCode else Done
+by_number n = when eqb n 4 then Unequal else when eqb n 14 then NoCode else Done
 
 named : (a : Levelling) → by_number (paper a).number ≡ a
 named Done = refl
@@ -52,7 +52,7 @@ module _ (codes : List ℕ) (levels : List Float) where
   given : Given codes levels (levelling_of codes levels)
   given = by (as_many codes levels) (any is_above codes) refl refl
     where
-      by : (m a : Bool) → as_many codes levels ≡ m → any is_above codes ≡ a → Given codes levels (if not m then Unequal else if a then NoCode else Done)
+      by : (m a : Bool) → as_many codes levels ≡ m → any is_above codes ≡ a → Given codes levels (when not m then Unequal else when a then NoCode else Done)
       by false a e f = this ((fails_exactly many-exactly).0 e)
       by true true e f = later (not-unequal (many-exactly.0 e)) (this ((above-exactly codes).0 f))
       by true false e f = later (not-unequal (many-exactly.0 e)) (later ((fails_exactly (above-exactly codes)).0 f) none)

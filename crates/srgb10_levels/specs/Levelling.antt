@@ -1,7 +1,7 @@
 -- "A channel entry turns a lent slice of codes into f32 levels divided by 65535. Refusals: in order 4, then 14 for a code above 1023, nothing written"
 -- (02, W9). Definitions only.
 use Rattle.std.specs.Prelude.{ℕ, Bool, not, List, map, eqb, ltb, Float, length}
-use Rattle.notation.specs.Choice.{if◌then◌else◌}
+use Rattle.notation.specs.Choice.{when◌then◌else◌}
 use Rattle.notation.specs.Several.{any}
 use Rattle.notation.specs.Answers.{answer}
 use Rattle.notation.specs.declared.Answer.{Answer}
@@ -25,7 +25,7 @@ is_above c = ltb 1023 c
 
 -- "in order 4, then 14"
 abbrev pub levelling_of : List ℕ → List Float → Levelling
-levelling_of codes levels = if not (as_many codes levels) then Unequal else if any is_above codes then NoCode else Done
+levelling_of codes levels = when not (as_many codes levels) then Unequal else when any is_above codes then NoCode else Done
 
 -- what the lent slice holds after it: the level of each code, and after a refusal what it held, "nothing written"
 abbrev pub left_by : Levelling → List ℕ → List Float → List Float

@@ -8,7 +8,7 @@ use native.Mathlib.Omega.{arith}
 use lib.Ieee.{Float, lt}
 use lib.ListN.{length, length-append}
 use Rattle.notation.specs.F32.{bits}
-use Rattle.notation.specs.Choice.{if◌then◌else◌}
+use Rattle.notation.specs.Choice.{when◌then◌else◌}
 use Rattle.same.specs.Same.{same_curve}
 use Rattle.op.specs.declared.Curve.TheVariants as C
 use Rattle.op.specs.declared.Op.{Op}
@@ -37,7 +37,7 @@ at_most_ten source target settings =
     )
   where
     -- a choice of two lists is no longer than the longer
-    choice : (t : Bool) (a b : List Op) (n : ℕ) → length a ≤ n → length b ≤ n → length (if t then a else b) ≤ n
+    choice : (t : Bool) (a b : List Op) (n : ℕ) → length a ≤ n → length b ≤ n → length (when t then a else b) ≤ n
     choice true a b n h k = h
     choice false a b n h k = k
 

@@ -2,7 +2,7 @@
 use Rattle.std.specs.Prelude.{List, [], ◌∷◌, ◌++◌, Bool, true, false, ◌&&◌, ◌||◌, not, Float}
 use Rattle.std.specs.Float.Ieee.{lt, le}
 use Rattle.notation.specs.F32.{bits}
-use Rattle.notation.specs.Choice.{if◌then◌else◌}
+use Rattle.notation.specs.Choice.{when◌then◌else◌}
 use Rattle.ciexyz.specs.Points.{illuminant_of}
 use Rattle.ciexyz.specs.Xyz.{to_xyz, from_xyz, adapt_of}
 use Rattle.ciexyz.specs.declared.WhitePoint.{WhitePoint}
@@ -90,7 +90,7 @@ linear s w p i = record { colour_space = s; white_point = w; primaries = p; tf =
 
 abbrev pub decoded : EnumColourEncoding → EnumColourEncoding
 decoded source =
-    if same_space source.colour_space S.Xyb
+    when same_space source.colour_space S.Xyb
     then linear S.Rgb W.D65 P.Srgb source.rendering_intent
     else linear source.colour_space source.white_point source.primaries source.rendering_intent
 
@@ -104,39 +104,39 @@ differs current target =
 
 -- a perceptual GamutMap, else Clip
 abbrev pub limit_op : EnumColourEncoding → Op
-limit_op current = if same_intent current.rendering_intent I.Perceptual then O.GamutMap (own_luminances current) factor else O.Clip
+limit_op current = when same_intent current.rendering_intent I.Perceptual then O.GamutMap (own_luminances current) factor else O.Clip
 
 -- Yxy to XYZ, or RGB to XYZ
 abbrev pub to_xyz_op : EnumColourEncoding → Op
 to_xyz_op current =
-    if same_space current.colour_space S.Grey
+    when same_space current.colour_space S.Grey
     then O.LumaToXyz (illuminant_of current.white_point)
     else O.Matrix (to_xyz current.primaries current.white_point)
 
 -- chromatic adaptation, but for Absolute
 abbrev pub adapt_ops : EnumColourEncoding → EnumColourEncoding → List Op
 adapt_ops current target =
-    if same_intent current.rendering_intent I.Absolute
+    when same_intent current.rendering_intent I.Absolute
     then []
     else (O.Matrix (adapt_of current.white_point target.white_point) ∷ [])
 
 -- XYZ to Yxy, or XYZ to RGB
 abbrev pub from_xyz_op : EnumColourEncoding → Op
 from_xyz_op target =
-    if same_space target.colour_space S.Grey
+    when same_space target.colour_space S.Grey
     then O.XyzToLuma
     else O.Matrix (from_xyz target.primaries target.white_point)
 
 abbrev pub convert_ops : EnumColourEncoding → EnumColourEncoding → List Op
 convert_ops current target =
-    if differs current target
+    when differs current target
     then limit_op current ∷ to_xyz_op current ∷ (adapt_ops current target ++ (from_xyz_op target ∷ []))
     else []
 
 -- the current encoding, after conversion: the target's primaries only if it was entered
 abbrev pub converted : EnumColourEncoding → EnumColourEncoding → EnumColourEncoding
 converted current target =
-    if differs current target
+    when differs current target
     then linear target.colour_space target.white_point target.primaries current.rendering_intent
     else current
 
@@ -145,14 +145,14 @@ converted current target =
 -- the tone map of one channel, or of three
 abbrev pub tone_map_op : EnumColourEncoding → HdrParams → Float → Bool → Op
 tone_map_op current params display detect =
-    if same_space current.colour_space S.Grey
+    when same_space current.colour_space S.Grey
     then O.ToneMapLumaRec2408 params display detect
     else O.ToneMapRec2408 params display detect
 
 -- after it, for three channels, a perceptual GamutMap
 abbrev pub gamut_map_ops : EnumColourEncoding → Float → List Op
 gamut_map_ops current saturation =
-    if not (same_space current.colour_space S.Grey) && same_intent current.rendering_intent I.Perceptual
+    when not (same_space current.colour_space S.Grey) && same_intent current.rendering_intent I.Perceptual
     then O.GamutMap (own_luminances current) saturation ∷ []
     else []
 
@@ -161,7 +161,7 @@ is_tone_mapped target settings = lt screen_peak settings.intensity_target && not
 
 abbrev pub tone_map_ops : EnumColourEncoding → EnumColourEncoding → Settings → List Op
 tone_map_ops current target settings =
-    if is_tone_mapped target settings
+    when is_tone_mapped target settings
     then tone_map_op current (hdr_params (own_luminances current) settings.intensity_target settings) screen_peak settings.detect_peak
     ∷ gamut_map_ops current factor
     else []
@@ -176,25 +176,25 @@ near_thousand intensity = le near_from intensity && le intensity near_to
 
 abbrev pub inverse_ootf_ops : EnumColourEncoding → Settings → List Op
 inverse_ootf_ops current settings =
-    if near_thousand settings.intensity_target
+    when near_thousand settings.intensity_target
     then []
     else (tone_map_op current (hdr_params (own_luminances current) settings.intensity_target settings) hlg_peak false
     ∷ O.HlgInverseOotf (hdr_params (own_luminances current) hlg_peak settings) ∷ [])
 
 abbrev pub pq_to_hlg_ops : EnumColourEncoding → EnumColourEncoding → Settings → List Op
 pq_to_hlg_ops current target settings =
-    if is_pq_to_hlg target settings
+    when is_pq_to_hlg target settings
     then inverse_ootf_ops current settings ++ gamut_map_ops current hlg_factor
     else []
 
 -- ---- "after those steps the target curve carries 300.0; a target curve unless Linear"
 
 abbrev pub curve_intensity : EnumColourEncoding → Settings → Float
-curve_intensity target settings = if is_pq_to_hlg target settings then curve_peak else settings.intensity_target
+curve_intensity target settings = when is_pq_to_hlg target settings then curve_peak else settings.intensity_target
 
 abbrev pub curve_ops : EnumColourEncoding → EnumColourEncoding → Settings → List Op
 curve_ops current target settings =
-    if same_curve target.tf C.Linear
+    when same_curve target.tf C.Linear
     then []
     else (O.TransferFunction target.tf (hdr_params (own_luminances current) (curve_intensity target settings) settings) false ∷ [])
 

@@ -5,7 +5,7 @@ use mathlib.Core.Path.{◌≡◌, refl}
 use mathlib.Core.Bool.{Bool, true, false}
 use mathlib.Core.List.{List, [], ◌∷◌, map}
 use lib.Ieee.{Float, fin, inf, is_nan, lt, nan, of_bits}
-use Rattle.notation.specs.Choice.{if◌then◌else◌}
+use Rattle.notation.specs.Choice.{when◌then◌else◌}
 use Rattle.notation.specs.F32.{one, zero}
 use Rattle.counts.specs.Bad.{bad_in, is_bad}
 use Rattle.steps.specs.Samples.{clip_of}
@@ -13,9 +13,9 @@ use Rattle.steps.specs.Samples.{clip_of}
 -- how many NaNs
 abbrev pub nans_in : List Float → ℕ
 nans_in [] = 0
-nans_in (x ∷ xs) = (if is_nan x then 1 else 0) + nans_in xs
+nans_in (x ∷ xs) = (when is_nan x then 1 else 0) + nans_in xs
 
-by_tests : (x : Float) (below above : Bool) → is_bad x ≡ false → is_bad (if below then zero else if above then one else x) ≡ false
+by_tests : (x : Float) (below above : Bool) → is_bad x ≡ false → is_bad (when below then zero else when above then one else x) ≡ false
 unfolding of_bits
 by_tests x true above e = refl
 by_tests x false true e = refl

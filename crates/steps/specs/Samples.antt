@@ -2,7 +2,7 @@
 use Rattle.std.specs.Prelude.{ℕ, Bool, List, map, leb, Float}
 use Rattle.std.specs.Float.Ieee.{lt}
 use Rattle.notation.specs.F32.{◌-f◌, ◌*f◌, ◌/f◌, zero, one}
-use Rattle.notation.specs.Choice.{if◌then◌else◌}
+use Rattle.notation.specs.Choice.{when◌then◌else◌}
 use Rattle.ciexyz.specs.declared.Vec3.{Vec3}
 use Rattle.ciexyz.specs.declared.Xy.{Xy}
 use Rattle.channels.specs.Channels.{Channels, channels, vec}
@@ -17,11 +17,11 @@ luma_of_xyz s = channels s.b s.b s.c
 
 -- "Clip: .. below 0 gives 0, above 1 gives 1; NaN and minus zero stay."
 abbrev pub clip_of : Float → Float
-clip_of x = if lt x zero then zero else if lt one x then one else x
+clip_of x = when lt x zero then zero else when lt one x then one else x
 
 -- "the channels within the width"
 abbrev pub clipped_if : Bool → List Float → List Float
-clipped_if inside s = if inside then map clip_of s else s
+clipped_if inside s = when inside then map clip_of s else s
 
 abbrev pub clipped_within : ℕ → Channels → Channels
 clipped_within w s = channels (clipped_if (leb 1 w) s.a) (clipped_if (leb 2 w) s.b) (clipped_if (leb 3 w) s.c)

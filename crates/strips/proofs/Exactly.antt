@@ -7,7 +7,7 @@ use mathlib.Core.List.{[]}
 use mathlib.Core.Logic.{◌↔◌}
 use native.Mathlib.Omega.{arith}
 use lib.Dec.{eqb}
-use Rattle.notation.specs.Choice.{if◌then◌else◌}
+use Rattle.notation.specs.Choice.{when◌then◌else◌}
 use Rattle.notation.specs.Answers.{answer}
 use Rattle.notation.specs.declared.Answer.{Answer}
 use Rattle.notation.proofs.Tests.{fails_exactly}
@@ -35,7 +35,7 @@ Words z s Unequal = ((w : ℕ) × OpenAt z w) × (¬ EquallyLong s)
 
 -- an answer is read back from 02's answer for it
 abbrev back : Answer → Stripping
-back a = if eqb a.number 11 then NotOpen else if eqb a.number 4 then Unequal else Done a.width
+back a = when eqb a.number 11 then NotOpen else when eqb a.number 4 then Unequal else Done a.width
 
 reads-back : (e : Stripping) → back (paper e) ≡ e
 reads-back (Done w) = refl

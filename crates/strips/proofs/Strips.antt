@@ -4,7 +4,7 @@ use Prim.Native.Nat.{ℕ}
 use mathlib.Core.Path.{◌≡◌, ap, refl, sym, ◌∙◌}
 use mathlib.Core.Bool.{Bool, true, false}
 use mathlib.Core.List.{List, [], ◌∷◌, map}
-use Rattle.notation.specs.Choice.{if◌then◌else◌}
+use Rattle.notation.specs.Choice.{when◌then◌else◌}
 use Rattle.channels.specs.Channels.{Channels, EquallyLong, equally_long}
 use Rattle.channels.specs.Joined.{join, join_all}
 use Rattle.channels.proofs.Lengths.{equal_exactly}
@@ -40,7 +40,7 @@ pub all_left : (z : State) {ss : List Channels} → AllEquallyLong ss → accept
 all_left z none = refl
 all_left z (more {s} {ss} e es) =
     let rest = accepted_left (after z (gives s)) ss in
-    ap (λ (b : Bool). if b then left_of z s ∷ rest else rest) ((equal_exactly s).1 e)
+    ap (λ (b : Bool). when b then left_of z s ∷ rest else rest) ((equal_exactly s).1 e)
     ∙ ap (λ (l : List Channels). left_of z s ∷ l) (all_left (after z (gives s)) es)
 
 -- strips leave the run's list as it was
@@ -70,16 +70,16 @@ module _ (p : Plan) (w : ℕ) (ready : judge_of p ≡ Ready w) where
       by true e rest =
           let l = (equal_exactly s).0 e in
           let left = accepted_left (after z (gives s)) ss in
-          ap (λ (b : Bool). join_all (if b then left_of z s ∷ left else left)) e
+          ap (λ (b : Bool). join_all (when b then left_of z s ∷ left else left)) e
           ∙ ap (λ (t : Channels). join t (join_all left)) (ap (λ (q : Plan). ran_of q s) h ∙ sym (ran p w ready s l))
           ∙ ap (λ (t : Channels). join (ops s) t) rest
           ∙ sym (ops-join p.start (ops_of p) s (join_all (accepted ss)) l)
-          ∙ ap (λ (b : Bool). ops (join_all (if b then s ∷ accepted ss else accepted ss))) (sym e)
+          ∙ ap (λ (b : Bool). ops (join_all (when b then s ∷ accepted ss else accepted ss))) (sym e)
       by false e rest =
           let left = accepted_left (after z (gives s)) ss in
-          ap (λ (b : Bool). join_all (if b then left_of z s ∷ left else left)) e
+          ap (λ (b : Bool). join_all (when b then left_of z s ∷ left else left)) e
           ∙ rest
-          ∙ ap (λ (b : Bool). ops (join_all (if b then s ∷ accepted ss else accepted ss))) (sym e)
+          ∙ ap (λ (b : Bool). ops (join_all (when b then s ∷ accepted ss else accepted ss))) (sym e)
 
   pub joined-run : (z : State) → z.plan ≡ p → (ss : List Channels) → join_all (accepted_left z ss) ≡ ran_of p (join_all (accepted ss))
   joined-run z h ss = joined-ops z h ss ∙ ran p w ready (join_all (accepted ss)) (accepted-even ss)

@@ -5,7 +5,7 @@ use mathlib.Core.Path.{◌≡◌, ap, refl, sym, subst, ◌∙◌}
 use mathlib.Core.Bool.{Bool, true, false}
 use mathlib.Core.List.{List, [], ◌∷◌, map}
 use native.Mathlib.Omega.{arith}
-use Rattle.notation.specs.Choice.{if◌then◌else◌}
+use Rattle.notation.specs.Choice.{when◌then◌else◌}
 use Rattle.channels.specs.Channels.{Channels, equally_long}
 use Rattle.channels.specs.Joined.{join_all}
 use Rattle.counts.specs.Bad.{bad_within, count_of, held}
@@ -33,9 +33,9 @@ fits z [] f = f
 fits z (s ∷ ss) f = fits (after z (gives s)) ss (fits_by z (answer_of z s) (left_of z s) f)
 
 module _ (p : Plan) (w : ℕ) (ready : judge_of p ≡ Ready w) where
-  answers : (z : State) → z.plan ≡ p → (s : Channels) (b : Bool) → equally_long s ≡ b → answer_of z s ≡ (if b then Done w else Unequal)
+  answers : (z : State) → z.plan ≡ p → (s : Channels) (b : Bool) → equally_long s ≡ b → answer_of z s ≡ (when b then Done w else Unequal)
   answers z h s b e =
-      ap (λ (j : Judgement). strip_by j (equally_long s)) (ap judge_of h ∙ ready) ∙ ap (λ (c : Bool). if c then Done w else Unequal) e
+      ap (λ (j : Judgement). strip_by j (equally_long s)) (ap judge_of h ∙ ready) ∙ ap (λ (c : Bool). when c then Done w else Unequal) e
 
   pub total : (z : State) → z.plan ≡ p → (ss : List Channels) → held (after_all z (map gives ss)).bad ≡ held (z.bad + bad_within w (join_all (accepted_left z ss)))
   total z h [] =
@@ -60,13 +60,13 @@ module _ (p : Plan) (w : ℕ) (ready : judge_of p ≡ Ready w) where
           ∙ held-inside z.bad here there
           ∙ ap held sum
           ∙ ap (λ (n : ℕ). held (z.bad + n)) (sym joined)
-          ∙ ap (λ (b : Bool). held (z.bad + bad_within w (join_all (if b then left_of z s ∷ left else left)))) (sym e)
+          ∙ ap (λ (b : Bool). held (z.bad + bad_within w (join_all (when b then left_of z s ∷ left else left)))) (sym e)
       by false e rest =
           let left = accepted_left (after z (gives s)) ss in
           let skips = ap (λ (q : Stripping). (after_by z q (left_of z s)).bad) (answers z h s false e) in
           rest
           ∙ ap (λ (n : ℕ). held (n + bad_within w (join_all left))) skips
-          ∙ ap (λ (b : Bool). held (z.bad + bad_within w (join_all (if b then left_of z s ∷ left else left)))) (sym e)
+          ∙ ap (λ (b : Bool). held (z.bad + bad_within w (join_all (when b then left_of z s ∷ left else left)))) (sym e)
 
   -- from an opening on
   pub summed : (z : State) → z.plan ≡ p → z.bad ≡ 0 → (ss : List Channels) → (after_all z (map gives ss)).bad ≡ held (bad_within w (join_all (accepted_left z ss)))

@@ -1,6 +1,6 @@
 -- Sequences of calls, each on the state that the one before left: what they answer, and what the strips leave. Definitions and relations only.
 use Rattle.std.specs.Prelude.{ℕ, List, [], ◌∷◌}
-use Rattle.notation.specs.Choice.{if◌then◌else◌}
+use Rattle.notation.specs.Choice.{when◌then◌else◌}
 use Rattle.notation.specs.declared.Answer.{Answer}
 use Rattle.channels.specs.Channels.{Channels, EquallyLong, equally_long}
 use Rattle.list.specs.Lists.{ops_of, Lawful}
@@ -42,11 +42,11 @@ left_all z (s ∷ ss) = left_of z s ∷ left_all (after z (gives s)) ss
 -- "the accepted strips": those whose lengths are equal; as they are given, and as they are left
 abbrev pub accepted : List Channels → List Channels
 accepted [] = []
-accepted (s ∷ ss) = if equally_long s then s ∷ accepted ss else accepted ss
+accepted (s ∷ ss) = when equally_long s then s ∷ accepted ss else accepted ss
 
 abbrev pub accepted_left : State → List Channels → List Channels
 accepted_left z [] = []
-accepted_left z (s ∷ ss) = if equally_long s then left_of z s ∷ accepted_left (after z (gives s)) ss else accepted_left (after z (gives s)) ss
+accepted_left z (s ∷ ss) = when equally_long s then left_of z s ∷ accepted_left (after z (gives s)) ss else accepted_left (after z (gives s)) ss
 
 -- ---- in words
 

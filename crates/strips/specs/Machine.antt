@@ -1,7 +1,7 @@
 -- "We open a run with a plan, give strips of three channels, and close it." (02, W1): what each call answers, reports and makes of the state, and
 -- what a strip leaves in the channels. Definitions only.
 use Rattle.std.specs.Prelude.{ℕ, ◌+◌, Bool, true, []}
-use Rattle.notation.specs.Choice.{if◌then◌else◌}
+use Rattle.notation.specs.Choice.{when◌then◌else◌}
 use Rattle.notation.specs.Answers.{answer}
 use Rattle.notation.specs.declared.Answer.{Answer}
 use Rattle.channels.specs.Channels.{Channels, equally_long}
@@ -40,7 +40,7 @@ open_of z p = record { answer = judge_of p; state = opened_by p (judge_of p) }
 
 -- by what is judged of the state's list: "11 for a strip or a close without an open run, tested before 4"
 abbrev pub strip_by : Judgement → Bool → Stripping
-strip_by (Ready w) same = if same then Done w else Unequal
+strip_by (Ready w) same = when same then Done w else Unequal
 strip_by Malformed same = NotOpen
 strip_by (Misfit i) same = NotOpen
 strip_by (NotCarried i) same = NotOpen

@@ -1,7 +1,7 @@
 -- A number that is read digit by digit has at most nine of them.
 -- Each digit is taken only where the number stays so small.
 use Rattle.std.proofs.Common.{◌≡◌, ℕ, ◌+◌, ◌-◌, ◌*◌, ◌≤◌, Bool, true, false, ltb, List, [], ◌∷◌, refl, arith, ltb-false}
-use Rattle.notation.specs.Choice.{if◌then◌else◌}
+use Rattle.notation.specs.Choice.{when◌then◌else◌}
 use Rattle.wording.specs.Decimal.{digits, digits_from}
 use Rattle.wording.specs.declared.decimal.Number.{Number}
 use Rattle.wording.specs.declared.decimal.Number.TheVariants.{Is, Not}
@@ -15,7 +15,7 @@ from (c ∷ s) n k h e = by (ltb c 48) (ltb 57 c) (ltb 999_999_999 (10 * n + (c 
   where
     by : (a b t : Bool) → ltb 999_999_999 (10 * n + (c - 48)) ≡ t
         → (10 * n + (c - 48) ≤ 999_999_999 → digits_from (10 * n + (c - 48)) s ≡ Is k → k ≤ 999_999_999)
-        → (if a then Not else if b then Not else if t then Not else digits_from (10 * n + (c - 48)) s) ≡ Is k → k ≤ 999_999_999
+        → (when a then Not else when b then Not else when t then Not else digits_from (10 * n + (c - 48)) s) ≡ Is k → k ≤ 999_999_999
     by true b t q f e = absurd (no_number k e)
     by false true t q f e = absurd (no_number k e)
     by false false true q f e = absurd (no_number k e)

@@ -1,6 +1,6 @@
 -- A whole number as a word: digits, and a minus before them where it is negative; up to nine digits in size. Definitions only.
 use Rattle.std.specs.Prelude.{ℕ, ◌+◌, ◌-◌, ◌*◌, List, [], ◌∷◌, ℤ, pos, neg_ℤ, ◌==◌, nat_lt}
-use Rattle.notation.specs.Choice.{if◌then◌else◌}
+use Rattle.notation.specs.Choice.{when◌then◌else◌}
 use Rattle.wording.specs.declared.decimal.Number.{Number}
 use Rattle.wording.specs.declared.decimal.Number.TheVariants.{Is, Not}
 
@@ -8,9 +8,9 @@ use Rattle.wording.specs.declared.decimal.Number.TheVariants.{Is, Not}
 abbrev pub digits_from : ℕ → List ℕ → Number
 digits_from n [] = Is n
 digits_from n (c ∷ s) =
-    if nat_lt c 48 then Not
-    else if nat_lt 57 c then Not
-    else if nat_lt 999_999_999 (10 * n + (c - 48)) then Not
+    when nat_lt c 48 then Not
+    else when nat_lt 57 c then Not
+    else when nat_lt 999_999_999 (10 * n + (c - 48)) then Not
     else digits_from (10 * n + (c - 48)) s
 
 -- one at least
@@ -25,7 +25,7 @@ negative Not = Not
 
 abbrev pub whole : List ℕ → Number
 whole [] = Not
-whole (c ∷ s) = if c == 45 then negative (digits s) else digits (c ∷ s)
+whole (c ∷ s) = when c == 45 then negative (digits s) else digits (c ∷ s)
 
 abbrev pub signed : ℕ → ℤ
-signed n = if nat_lt n 0x8000_0000 then pos n else neg_ℤ (pos (n - 0x8000_0000))
+signed n = when nat_lt n 0x8000_0000 then pos n else neg_ℤ (pos (n - 0x8000_0000))

@@ -2,7 +2,7 @@
 -- numbers for points, in millionths, and for `g`. "Points are read only where Custom, `g` where the curve is a Gamma", and nothing behind `Icc`. The
 -- lines `intensity`, `min_nits` (in millionths) and `version` have one whole number, `detect_peak` and `from_pq` none. Definitions only.
 use Rattle.std.specs.Prelude.{ℕ, ◌+◌, ◌-◌, Bool, true, false, not, ◌&&◌, List, [], ◌∷◌, ◌++◌, length, replicate, ◌==◌, nat_le, nat_lt, slice_index, slice_index_or, slice_range, slice_set}
-use Rattle.notation.specs.Choice.{if◌then◌else◌}
+use Rattle.notation.specs.Choice.{when◌then◌else◌}
 use Rattle.wording.specs.Words.{number_in, spaces, whites, primaries, curves, intents, keys}
 use Rattle.wording.specs.Decimal.{whole}
 use Rattle.wording.specs.declared.decimal.Number.{Number}
@@ -26,38 +26,38 @@ faulty m at = record { numbers = m.numbers; next = m.next; inside = m.inside; fa
 
 -- the place of a number in its encoding
 abbrev pub field_of : ℕ → ℕ
-field_of n = if nat_lt n 14 then n else n - 14
+field_of n = when nat_lt n 14 then n else n - 14
 
 -- a word of a table of so many
 abbrev pub named : ℕ → ℕ → Number
-named count n = if nat_lt n count then Is n else Not
+named count n = when nat_lt n count then Is n else Not
 
 -- the number that a word stands for at a place
 unfoldable pub number_at : ℕ → List ℕ → Number
 number_at n w =
-    if nat_le 28 n then whole w
-    else if field_of n == 0 then named 5 (number_in spaces w)
-    else if field_of n == 1 then named 4 (number_in whites w)
-    else if field_of n == 4 then named 4 (number_in primaries w)
-    else if field_of n == 11 then named 9 (number_in curves w)
-    else if field_of n == 13 then named 4 (number_in intents w)
+    when nat_le 28 n then whole w
+    else when field_of n == 0 then named 5 (number_in spaces w)
+    else when field_of n == 1 then named 4 (number_in whites w)
+    else when field_of n == 4 then named 4 (number_in primaries w)
+    else when field_of n == 11 then named 9 (number_in curves w)
+    else when field_of n == 13 then named 4 (number_in intents w)
     else whole w
 
 -- how many places on the next number of an encoding stands, behind a field whose number is v: "Points are read only where Custom, `g` where the curve
 -- is a Gamma"
 abbrev pub stride_of : ℕ → ℕ → ℕ
 stride_of field v =
-    if field == 1 then if v == 3 then 1 else 3
-    else if field == 4 then if v == 3 then 1 else 7
-    else if field == 11 then if nat_le v 1 then 1 else 2
+    when field == 1 then when v == 3 then 1 else 3
+    else when field == 4 then when v == 3 then 1 else 7
+    else when field == 11 then when nat_le v 1 then 1 else 2
     else 1
 
 -- the place of the number behind it; behind an intent, an ICC profile and each of the settings there is none
 unfoldable pub behind : ℕ → ℕ → ℕ
 behind n v =
-    if nat_le 28 n then none
-    else if field_of n == 13 then none
-    else if field_of n == 0 && v == 4 then none
+    when nat_le 28 n then none
+    else when field_of n == 13 then none
+    else when field_of n == 0 && v == 4 then none
     else n + stride_of (field_of n) v
 
 -- where a line's numbers begin
@@ -67,9 +67,9 @@ start_of key = slice_index_or (0 ∷ 14 ∷ 28 ∷ 29 ∷ 30 ∷ 31 ∷ 32 ∷ [
 -- the first word of a line, which no line before had; `detect_peak` and `from_pq` are on where they stand
 abbrev pub key_taken : Filling → ℕ → ℕ → Filling
 key_taken m at key =
-    if nat_le 7 key then faulty m at
-    else if not (slice_index m.numbers (start_of key) == unset) then faulty m at
-    else if nat_le 5 key then record { numbers = slice_set m.numbers (start_of key) 1; next = none; inside = true; fault = false; place = 0 }
+    when nat_le 7 key then faulty m at
+    else when not (slice_index m.numbers (start_of key) == unset) then faulty m at
+    else when nat_le 5 key then record { numbers = slice_set m.numbers (start_of key) 1; next = none; inside = true; fault = false; place = 0 }
     else record { numbers = m.numbers; next = start_of key; inside = true; fault = false; place = 0 }
 
 abbrev pub number_taken : Filling → ℕ → Number → Filling
@@ -79,24 +79,24 @@ number_taken m at Not = faulty m at
 -- a word that begins at this place
 unfoldable pub word_taken : Filling → ℕ → List ℕ → Filling
 word_taken m at w =
-    if m.fault then m
-    else if not m.inside then key_taken m at (number_in keys w)
-    else if nat_le none m.next then faulty m at
+    when m.fault then m
+    else when not m.inside then key_taken m at (number_in keys w)
+    else when nat_le none m.next then faulty m at
     else number_taken m at (number_at m.next w)
 
 -- the end of a line, at this place: no number is waited for
 unfoldable pub line_ended : Filling → ℕ → Filling
 line_ended m at =
-    if m.fault then m
-    else if nat_lt m.next none then faulty m at
+    when m.fault then m
+    else when nat_lt m.next none then faulty m at
     else record { numbers = m.numbers; next = none; inside = false; fault = false; place = 0 }
 
 -- the end of the text: both encodings were given
 unfoldable pub ended : Filling → ℕ → Filling
 ended m at =
-    if m.fault then m
-    else if slice_index m.numbers 0 == unset then faulty m at
-    else if slice_index m.numbers 14 == unset then faulty m at
+    when m.fault then m
+    else when slice_index m.numbers 0 == unset then faulty m at
+    else when slice_index m.numbers 14 == unset then faulty m at
     else m
 
 -- the bytes from one place up to another
@@ -114,13 +114,13 @@ is_blank c = nat_le c 32
 
 -- what a byte leaves of a word
 abbrev pub word_by : List ℕ → ℕ → List ℕ
-word_by w c = if is_blank c then [] else w ++ (c ∷ [])
+word_by w c = when is_blank c then [] else w ++ (c ∷ [])
 
 -- and what it makes of the numbers: a line feed ends a word and a line, another blank a word
 abbrev pub filling_by : Filling → ℕ → List ℕ → ℕ → Filling
 filling_by m at w c =
-    if not (is_blank c) then m
-    else if c == 10 then line_ended (up_to m at w) at
+    when not (is_blank c) then m
+    else when c == 10 then line_ended (up_to m at w) at
     else up_to m at w
 
 -- byte after byte, from this place on

@@ -2,7 +2,7 @@
 use Rattle.std.specs.Prelude.{ℕ, List, [], ◌∷◌, ◌++◌, map, take, drop, ℤ, ◌==◌, nat_lt, slice_index, Float}
 use Rattle.std.specs.Float.{binary32}
 use Rattle.std.specs.Float.Ieee.{of_int}
-use Rattle.notation.specs.Choice.{if◌then◌else◌}
+use Rattle.notation.specs.Choice.{when◌then◌else◌}
 use Rattle.notation.specs.F32.{◌/f◌, bits}
 use Rattle.wording.specs.Decimal.{signed}
 use Rattle.wording.specs.Filling.{unset}
@@ -12,7 +12,7 @@ side_at from ns = map signed (take 14 (drop from ns))
 
 -- a number, or what stands for it where no line gave it
 abbrev pub given : ℕ → ℕ → ℕ
-given n otherwise = if n == unset then otherwise else n
+given n otherwise = when n == unset then otherwise else n
 
 unfoldable pub float_of : ℕ → Float
 float_of n = of_int binary32 (signed n)
@@ -28,10 +28,10 @@ floats_of ns = opsin ++ (bits 0xbb78_9536 ∷ bits 0xbb78_9536 ∷ bits 0xbb78_9
 
 -- 1 where no line gave one; no block has a version from 2^16 on, nor version 0
 abbrev pub version_of : List ℕ → ℕ
-version_of ns = let n = given (slice_index ns 30) 1 in if nat_lt 0xffff n then 0 else n
+version_of ns = let n = given (slice_index ns 30) 1 in when nat_lt 0xffff n then 0 else n
 
 abbrev pub flag_by : ℕ → ℕ
-flag_by n = if n == 1 then 1 else 0
+flag_by n = when n == 1 then 1 else 0
 
 abbrev pub flag_of : List ℕ → ℕ → ℕ
 flag_of ns i = flag_by (slice_index ns i)

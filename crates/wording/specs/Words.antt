@@ -1,7 +1,7 @@
 -- The words by which numbers are named, each table in the order of its numbers: those of an encoding's fourteen numbers, and those that begin a
 -- line. Definitions only.
 use Rattle.std.specs.Prelude.{ℕ, suc, Bool, true, false, ◌&&◌, List, [], ◌∷◌, ◌++◌, ◌==◌}
-use Rattle.notation.specs.Choice.{if◌then◌else◌}
+use Rattle.notation.specs.Choice.{when◌then◌else◌}
 use Rattle.notation.specs.Text.{ascii}
 
 -- whether two words are the same, byte by byte
@@ -14,12 +14,12 @@ same_word (x ∷ xs) (y ∷ ys) = x == y && same_word xs ys
 -- a word's number in a table: how many words stand before it; of a word that is not there, how many stand in the table
 abbrev pub place_in : List (List ℕ) → List ℕ → ℕ
 place_in [] w = 0
-place_in (t ∷ ts) w = if same_word w t then 0 else suc (place_in ts w)
+place_in (t ∷ ts) w = when same_word w t then 0 else suc (place_in ts w)
 
 -- the words of a text in which a space stands behind each; `w` is what of the first one was read
 abbrev pub words_from : List ℕ → List ℕ → List (List ℕ)
 words_from w [] = []
-words_from w (c ∷ s) = if c == 32 then w ∷ words_from [] s else words_from (w ++ (c ∷ [])) s
+words_from w (c ∷ s) = when c == 32 then w ∷ words_from [] s else words_from (w ++ (c ∷ [])) s
 
 unfoldable pub number_in : List ℕ → List ℕ → ℕ
 number_in table w = place_in (words_from [] table) w

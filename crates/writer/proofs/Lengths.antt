@@ -7,7 +7,7 @@ use mathlib.Core.List.{List, [], ◌∷◌, ◌++◌, map}
 use native.Mathlib.Omega.{arith}
 use lib.Dec.{eqb}
 use lib.ListN.{length, length-append}
-use Rattle.notation.specs.Choice.{if◌then◌else◌}
+use Rattle.notation.specs.Choice.{when◌then◌else◌}
 use Rattle.notation.specs.Text.{ascii}
 use Rattle.op.specs.declared.Op.{Op}
 use Rattle.parts.specs.Parts.{field_of, kind_of, values_of}
@@ -47,7 +47,7 @@ module _ (p : Plan) (v : ℕ) where
   pub head-size : length (head_bytes v p) ≡ head_of v
   head-size = by (eqb v 2)
     where
-      by : (b : Bool) → length ((ascii "CTP" ++ (u16_bytes v ++ (p.start ∷ p.count ∷ []))) ++ (if b then p.end ∷ [] else [])) ≡ (if b then 8 else 7)
+      by : (b : Bool) → length ((ascii "CTP" ++ (u16_bytes v ++ (p.start ∷ p.count ∷ []))) ++ (when b then p.end ∷ [] else [])) ≡ (when b then 8 else 7)
       by true = refl
       by false = refl
 

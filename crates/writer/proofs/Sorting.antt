@@ -9,7 +9,7 @@ use native.Mathlib.Omega.{arith}
 use borrow.Author.Tests.{ltb-true, ltb-false}
 use lib.Dec.{eqb, ltb}
 use lib.ListN.{length}
-use Rattle.notation.specs.Choice.{if◌then◌else◌}
+use Rattle.notation.specs.Choice.{when◌then◌else◌}
 use Rattle.notation.specs.Answers.{answer}
 use Rattle.notation.specs.Order.{FirstOf, none, this, later}
 use Rattle.notation.specs.declared.Answer.{Answer}
@@ -48,7 +48,7 @@ otherwise_known v = otherwise (known_exactly v) (fails_exactly (known_exactly v)
 module _ (p : Plan) (v : ℕ) where
   -- the answer of a number
   abbrev pub by_number : ℕ → Writing
-  by_number n = if eqb n 10 then Malformed else if eqb n 8 then WrongVersion else if eqb n 9 then BadField else if eqb n 15 then Retired else if eqb n 12 then NoRoom else Done (length (block_of v p))
+  by_number n = when eqb n 10 then Malformed else when eqb n 8 then WrongVersion else when eqb n 9 then BadField else when eqb n 15 then Retired else when eqb n 12 then NoRoom else Done (length (block_of v p))
 
   abbrev pub Named : Writing → Type 0
   Named writing = by_number (paper writing).number ≡ writing

@@ -4,7 +4,7 @@
 use Rattle.std.specs.Prelude.{ℕ, zero, suc, ◌+◌, ◌/◌, ◌%◌, List, [], ◌∷◌, ◌++◌, eqb}
 use Rattle.std.specs.Float.{binary32}
 use Rattle.std.specs.Float.Ieee.{to_bits}
-use Rattle.notation.specs.Choice.{if◌then◌else◌}
+use Rattle.notation.specs.Choice.{when◌then◌else◌}
 use Rattle.notation.specs.Text.{ascii}
 use Rattle.op.specs.declared.Op.{Op}
 use Rattle.parts.specs.Curves.{curve_number, gamma_of}
@@ -29,7 +29,7 @@ u32_bytes n = little_endian 4 n
 -- an f32 by its bits; a flag, u8; "curve u8, g u32"
 abbrev pub value_bytes : Value → List ℕ
 value_bytes (the_float x) = u32_bytes (to_bits binary32 x)
-value_bytes (the_flag on) = (if on then 1 else 0) ∷ []
+value_bytes (the_flag on) = (when on then 1 else 0) ∷ []
 value_bytes (the_curve c) = curve_number c ∷ u32_bytes (gamma_of c)
 
 -- the bytes of several, one behind the other
@@ -43,7 +43,7 @@ op_bytes o = kind_of o ∷ joined value_bytes (values_of o)
 
 -- version 2 has "the end width as one byte after the count"
 abbrev pub end_bytes : ℕ → ℕ → List ℕ
-end_bytes version end = if eqb version 2 then end ∷ [] else []
+end_bytes version end = when eqb version 2 then end ∷ [] else []
 
 -- "Mark `CTP`, version u16 .., start width u8, count u8"
 abbrev pub head_bytes : ℕ → Plan → List ℕ

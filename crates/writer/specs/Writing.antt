@@ -3,7 +3,7 @@
 -- other version 8, tested after 10". (02, W8). "15 .. in writing, between 9 and 12, buffer untouched". (02, W10). Definitions only.
 use Rattle.std.specs.Prelude.{ℕ, Bool, false, not, List, ◌++◌, ltb, length, drop}
 use Rattle.std.specs.Float.Ieee.{is_nan}
-use Rattle.notation.specs.Choice.{if◌then◌else◌}
+use Rattle.notation.specs.Choice.{when◌then◌else◌}
 use Rattle.notation.specs.Several.{any}
 use Rattle.notation.specs.Answers.{answer}
 use Rattle.notation.specs.declared.Answer.{Answer}
@@ -56,11 +56,11 @@ retired_list p = any is_retired (ops_of p)
 -- what writing in this version into so many bytes answers: "in this order 10, 9 .., 12", 8 "tested after 10", and 15 "between 9 and 12"
 unfoldable pub writing_of : Plan → ℕ → ℕ → Writing
 writing_of p version room =
-    if not (lawful p) then Malformed
-    else if not (known_version version) then WrongVersion
-    else if bad_list p then BadField
-    else if retired_list p then Retired
-    else if ltb room (length (block_of version p)) then NoRoom
+    when not (lawful p) then Malformed
+    else when not (known_version version) then WrongVersion
+    else when bad_list p then BadField
+    else when retired_list p then Retired
+    else when ltb room (length (block_of version p)) then NoRoom
     else Done (length (block_of version p))
 
 -- the buffer after it: the block, "mark first", and "bytes past that length stay as they were"; a refusal "leaves the buffer untouched"

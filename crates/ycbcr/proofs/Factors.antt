@@ -2,7 +2,7 @@
 -- By computing: each is a number of 24 digits at a place of its own.
 use Rattle.std.proofs.Common.{ℕ, Bool, true, false, eqb, refl, lit≤}
 use lib.Ieee.{div, fits, mul, neg, of_bits, of_int}
-use Rattle.notation.specs.Choice.{if◌then◌else◌}
+use Rattle.notation.specs.Choice.{when◌then◌else◌}
 use Rattle.weights.specs.Weights.{bt709, t871}
 use Rattle.firmware.specs.Firmware.{weights_of}
 use Rattle.ycbcr.specs.Ycbcr.{constants_of, green_of_cb, green_of_cr, part}
@@ -30,6 +30,6 @@ bt709-factors = record {
 pub factors_of_lem : (firmware : ℕ) → Factors (constants_of (weights_of firmware))
 factors_of_lem firmware = by (eqb firmware 4)
   where
-    by : (b : Bool) → Factors (constants_of (if b then bt709 else t871))
+    by : (b : Bool) → Factors (constants_of (when b then bt709 else t871))
     by true = bt709-factors
     by false = t871-factors

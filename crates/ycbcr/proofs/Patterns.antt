@@ -4,7 +4,7 @@ use Rattle.std.proofs.Common.{◌≡◌, ℕ, ◌+◌, ◌-◌, ◌*◌, ◌%◌
 use lib.Bits.{and_le_l, and_le_r, and_mod, bit_and, bit_or, or_add_and, or_mod}
 use lib.Ieee.{Float, binary32, fin, fits, inf, is_nan, lt, nan, of_bits, to_bits}
 use lib.Ieee.Exact.{HasValue}
-use Rattle.notation.specs.Choice.{if◌then◌else◌}
+use Rattle.notation.specs.Choice.{when◌then◌else◌}
 use Rattle.notation.specs.F32.{bits}
 use Rattle.binary32.proofs.Apart.{is_finite}
 use Rattle.binary32.proofs.Fields.{exponent, leading_digit, no_leading_digit}
@@ -48,7 +48,7 @@ two_real = tt
 pub real_capped : (x : Float) → T (not (is_nan (capped x)))
 real_capped x = by (lt x (bits 0x4000_0000)) (real_below x (bits 0x4000_0000))
   where
-    by : (b : Bool) → (b ≡ true → T (not (is_nan x))) → T (not (is_nan (if b then x else bits 0x4000_0000)))
+    by : (b : Bool) → (b ≡ true → T (not (is_nan x))) → T (not (is_nan (when b then x else bits 0x4000_0000)))
     by true n = n refl
     by false n = two_real
 
@@ -60,7 +60,7 @@ two_out h = omega arith
 in_window : (x : Float) → T (fits binary32 x) → pattern_of x % 0x8000_0000 < 0x4000_0000 → 0x3000_0000 ≤ one_less x % 0x4000_0000 → Ordinary x
 in_window x f = by (lt x (bits 0x4000_0000)) (real_below x (bits 0x4000_0000))
   where
-    by : (b : Bool) → (b ≡ true → T (not (is_nan x))) → let w = to_bits binary32 (if b then x else bits 0x4000_0000) in w % 0x8000_0000 < 0x4000_0000 → 0x3000_0000 ≤ (w + 0xffff_ffff) % 2 ^ 32 % 0x4000_0000 → Ordinary x
+    by : (b : Bool) → (b ≡ true → T (not (is_nan x))) → let w = to_bits binary32 (when b then x else bits 0x4000_0000) in w % 0x8000_0000 < 0x4000_0000 → 0x3000_0000 ≤ (w + 0xffff_ffff) % 2 ^ 32 % 0x4000_0000 → Ordinary x
     by true n h l = by-pattern x f (n refl) h l
     by false n h l = absurd (two_out h)
 

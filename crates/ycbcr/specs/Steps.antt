@@ -3,7 +3,7 @@ use Rattle.std.specs.Prelude.{ℕ, ◌+◌, ◌*◌, ◌%◌, ◌^◌, ◌<◌, 
 use Rattle.std.specs.Float.{binary32, nan}
 use Rattle.std.specs.Float.Ieee.{fits, lt}
 use Rattle.std.specs.Float.Ieee.Exact.{HasValue}
-use Rattle.notation.specs.Choice.{if◌then◌else◌}
+use Rattle.notation.specs.Choice.{when◌then◌else◌}
 use Rattle.notation.specs.F32.{bits}
 use Rattle.fused.specs.Fused.{fused}
 use Rattle.rounding.specs.Steps.{by_f64}
@@ -64,7 +64,7 @@ pub record Factors (k : Constants) : Type 0 where
 -- ---- the test
 -- a sample that has a pattern: x, or 2 where x is no smaller, or a NaN
 abbrev pub capped : Float → Float
-capped x = if lt x (bits 0x4000_0000) then x else bits 0x4000_0000
+capped x = when lt x (bits 0x4000_0000) then x else bits 0x4000_0000
 
 abbrev pub pattern_of : Float → ℕ
 pattern_of x = to_bits binary32 (capped x)

@@ -4,7 +4,7 @@ use Prim.Native.Nat.{ℕ}
 use mathlib.Core.Path.{◌≡◌}
 use mathlib.Core.Bool.{Bool, true, false}
 use lib.Dec.{eqb}
-use Rattle.notation.specs.Choice.{if◌then◌else◌}
+use Rattle.notation.specs.Choice.{when◌then◌else◌}
 use Rattle.weights.specs.Weights.{bt709, t871}
 use Rattle.weights.specs.Rgb.{rgb_of}
 use Rattle.firmware.specs.Firmware.{weights_of}
@@ -14,7 +14,7 @@ use Rattle.pixel.proofs.Weighed.{Short, by_factors, short_bt709, short_t871}
 short_of : (firmware : ℕ) → Short (weights_of firmware)
 short_of firmware = by (eqb firmware 4)
   where
-    by : (is-four : Bool) → Short (if is-four then bt709 else t871)
+    by : (is-four : Bool) → Short (when is-four then bt709 else t871)
     by true = short_bt709
     by false = short_t871
 

@@ -6,11 +6,11 @@ use native.Mathlib.Omega.{arith}
 use lib.Dec.{T}
 use mir.Val.{bool_byte}
 use borrow.Author.Rules.{rules}
-use Rattle.notation.specs.Choice.{if◌then◌else◌}
+use Rattle.notation.specs.Choice.{when◌then◌else◌}
 use Rattle.writer.proofs.laying.put_value.Statement.{statement}
 use Rattle.writer.proofs.laying.put_value.Tie as tie
 
-flag-byte : (on : Bool) → bool_byte on ≡ (if on then 1 else 0)
+flag-byte : (on : Bool) → bool_byte on ≡ (when on then 1 else 0)
 flag-byte true = refl
 flag-byte false = refl
 
