@@ -4,19 +4,18 @@ use mathlib.Core.Path.{◌≡◌}
 use Prim.Native.Nat.{◌%◌, ◌*◌, ◌+◌, ◌-◌, ◌/◌, ◌<◌, ℕ, ◌≤◌}
 use native.Mathlib.Nat.{le_of_lt, le_trans}
 use native.Mathlib.Omega.{arith}
-use borrow.Author.Rules.{rules}
 use Rattle.cbrt.proofs.Cubes.{cube-lt, cube-mono}
 use Rattle.cbrt.specs.Root.{cube}
 use Rattle.cbrt.specs.Steps.{WholeRoot}
-use Rattle.cbrt.proofs.root.magnitude.Statement.{statement}
-use Rattle.cbrt.proofs.root.magnitude.Tie as tie
+use Rattle.cbrt.proofs.root.magnitude.Goals.{After-whole-w}
+use Rattle.cbrt.proofs.root.magnitude.Goals as goal
 
 -- the shift loses no digit
-whole-root : (c : tie.After-whole) → WholeRoot (c.before.args.g * 0x1_0000_0000_0000) c.whole.result
+whole-root : (c : After-whole-w) → WholeRoot (c.args.g * 0x1_0000_0000_0000) c.whole-w.result
 whole-root c =
-    let g = c.before.args.g in
-    let e : g * 0x100_0000 % 0x1_0000_0000_0000_0000 * 0x100_0000 ≡ g * 0x1_0000_0000_0000 = omega (arith, c.before.requires) in
-    rw e at c.whole.ensures
+    let g = c.args.g in
+    let e : g * 0x100_0000 % 0x1_0000_0000_0000_0000 * 0x100_0000 ≡ g * 0x1_0000_0000_0000 = omega (arith, c.requires) in
+    rw e at c.whole-w.ensures
 
 -- the root has 25 digits
 w-lt : (g w : ℕ) → g < 0x800_0000 → cube w ≤ g * 0x1_0000_0000_0000 → w < 0x200_0000
@@ -25,24 +24,18 @@ w-lt g w h k = cube-lt w 0x200_0000 (g * 0x1_0000_0000_0000) k (omega arith)
 w-ge : (g w : ℕ) → 0x100_0000 ≤ g → g * 0x1_0000_0000_0000 < cube (w + 1) → 0x100_0000 < w + 1
 w-ge g w h k = cube-lt 0x100_0000 (w + 1) (g * 0x1_0000_0000_0000) (omega arith) k
 
-whole-requires : tie.Need-whole-requires
-whole-requires c κs = search rules
+pub overflow_add-q : goal.overflow_add-q
+overflow_add-q c = omega (arith, w-lt _ _ c.requires.1 (whole-root (goal.at.overflow_add-q c).After-whole-w).low)
 
-add-q : tie.Need-overflow-add-q
-add-q c = omega (arith, w-lt _ _ c.before.requires.1 (whole-root c).low)
+pub overflow_add-result-2 : goal.overflow_add-result-2
+overflow_add-result-2 c = omega (arith, w-lt _ _ c.requires.1 (whole-root (goal.at.overflow_add-result-2 c).After-whole-w).low)
 
-add-result : tie.Need-overflow-add-result
-add-result c = search rules
-
-add-result-2 : tie.Need-overflow-add-result-2
-add-result-2 c = omega (arith, w-lt _ _ c.before.requires.1 (whole-root c).low)
-
-returns : tie.Need-returns
+pub returns : goal.returns
 returns c =
-    let g = c.before.args.g in
-    let p = c.before.requires in
-    let w = c.whole.result in
-    let i = whole-root c in
+    let g = c.args.g in
+    let p = c.requires in
+    let w = c.whole-w.result in
+    let i = whole-root (goal.at.returns c).After-whole-w in
     let q = (w + 1) / 2 in
     let lt = w-lt g w p.1 i.low in
     let ge = w-ge g w p.0 i.high in
@@ -56,6 +49,3 @@ returns c =
       high = le_trans (le_of_lt i.high) (cube-mono hi);
       is = omega arith;
     }
-
-pub magnitude-spec : {M : Type 1} → statement M
-magnitude-spec = tie.close (tie.spec whole-requires add-q add-result add-result-2 returns)
