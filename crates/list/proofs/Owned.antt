@@ -15,4 +15,4 @@ use Rattle.list.proofs.Plan.TheLaws as LPlan
 pub thirty_two : (p : Plan) {vs : List Val} → Is (StructOf.row TPlan.the_type) p vs → length p.ops ≡ 32
 thirty_two p h =
     let q = (Struct.owed TPlan.the_type LPlan.the_laws p _ h).1.1.1.0 in
-    sym (length-map p.ops (TSlot.the_field).into) ∙ q.1.0.1
+    q.1.0.1
