@@ -1,0 +1,63 @@
+-- `word_of` is the word of its line at a place.
+-- What is left to count, from where the loop is, gives what the whole does.
+use Rattle.std.proofs.Common.{◌≡◌, ℕ, ◌+◌, ◌<◌, ◌≤◌, Bool, not, List, length, get_or, drop, sym, refl, ap, ◌∙◌, arith, drop_of_length-le, ne_eqb, le-leb}
+use Rattle.notation.proofs.Elements.{next}
+use Rattle.wording.specs.Filling.{is_blank}
+use Rattle.wording.specs.Places.{word_of, words_begun, words_by}
+use Rattle.wording.proofs.places.word_of.Goals as goal
+
+-- the next byte, and those behind it
+onward : (t : List ℕ) (n : ℕ) (inside : Bool) (i : ℕ) → i < length t
+    → words_begun n inside (drop i t) ≡ words_begun (words_by n inside (get_or t i 0)) (not (is_blank (get_or t i 0))) (drop (i + 1) t)
+onward t n inside i h = ap (words_begun n inside) (next t i 0 h)
+
+pub loop-i-init : goal.loop-i-init
+loop-i-init c = (refl, omega arith, omega arith)
+
+pub bounds-t-i : goal.bounds-t-i
+bounds-t-i c = omega arith
+
+pub overflow_add-i : goal.overflow_add-i
+overflow_add-i c = omega arith
+
+pub loop-i-smaller-then-c-eq10 : goal.loop-i-smaller-then-c-eq10
+loop-i-smaller-then-c-eq10 c = omega arith
+
+pub loop-i-preserved-then-c-eq10 : goal.loop-i-preserved-then-c-eq10
+loop-i-preserved-then-c-eq10 c =
+    let l = c.before.before in
+    let p = l.loop-i in
+    let t = l.front-t.result.now in
+    let o = sym (onward t p.n p.inside p.i l.loop-i-test.true) ∙ p.invariant.0 in
+    (rw c.if-c-eq10.true at o, omega arith, omega arith)
+
+pub loop-i-smaller-then-c-le32 : goal.loop-i-smaller-then-c-le32
+loop-i-smaller-then-c-le32 c = omega arith
+
+pub loop-i-preserved-then-c-le32 : goal.loop-i-preserved-then-c-le32
+loop-i-preserved-then-c-le32 c =
+    let l = c.before.before.before in
+    let p = l.loop-i in
+    let t = l.front-t.result.now in
+    let o = sym (onward t p.n p.inside p.i l.loop-i-test.true) ∙ p.invariant.0 in
+    (rw (ne_eqb _ _ c.if-c-eq10.false, le-leb _ _ c.if-c-le32.true) at o, omega arith, omega arith)
+
+pub overflow_add-n : goal.overflow_add-n
+overflow_add-n c = omega arith
+
+pub loop-i-smaller-then-not-inside : goal.loop-i-smaller-then-not-inside
+loop-i-smaller-then-not-inside c = omega arith
+
+pub loop-i-smaller : goal.loop-i-smaller
+loop-i-smaller c = omega arith
+
+pub overflow_add-result : goal.overflow_add-result
+overflow_add-result c = omega arith
+
+pub returns : goal.returns
+unfolding word_of
+returns c =
+    let p = c.loop-i in
+    let t = c.front-t.result.now in
+    let h : length t ≤ p.i = omega arith in
+    rw (← c.front-t.ensures, ← p.invariant.0, drop_of_length-le t {i = p.i} h)

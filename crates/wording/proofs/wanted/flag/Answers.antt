@@ -1,0 +1,10 @@
+-- `flag` says whether a line gave a setting.
+-- By its test.
+use Rattle.std.proofs.Common.{eq-eqb, ne_eqb}
+use Rattle.wording.proofs.wanted.flag.Goals as goal
+
+pub returns-then-n-eq1 : goal.returns-then-n-eq1
+returns-then-n-eq1 c = rw (eq-eqb _ _ c.if-n-eq1.true)
+
+pub returns : goal.returns
+returns c = rw (ne_eqb _ _ c.if-n-eq1.false)
