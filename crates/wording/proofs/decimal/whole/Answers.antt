@@ -1,7 +1,7 @@
 -- `whole` reads a whole number as a word.
 -- By its tests; so few digits fit behind a minus.
 use Rattle.std.proofs.Common.{◌≡◌, ℕ, ◌<◌, eqb, List, [], ◌∷◌, length, get_or, drop, sym, refl, ◌∙◌, arith, eq-eqb, ne_eqb}
-use Rattle.notation.specs.Choice.{if◌then◌else◌}
+use Rattle.notation.specs.Choice.{when◌then◌else◌}
 use Rattle.wording.specs.Decimal.{digits, negative, whole}
 use Rattle.wording.specs.declared.decimal.Number.TheVariants.{Not}
 use Rattle.wording.proofs.NineDigits.{nine_at_most}
@@ -11,7 +11,7 @@ empty : (s : List ℕ) → length s ≡ 0 → whole s ≡ Not
 empty [] e = refl
 empty (c ∷ s) e = absurd (omega arith)
 
-by_first : (s : List ℕ) → 0 < length s → whole s ≡ (if eqb (get_or s 0 0) 45 then negative (digits (drop 1 s)) else digits (drop 0 s))
+by_first : (s : List ℕ) → 0 < length s → whole s ≡ (when eqb (get_or s 0 0) 45 then negative (digits (drop 1 s)) else digits (drop 0 s))
 by_first [] h = absurd (omega arith)
 by_first (c ∷ s) h = refl
 

@@ -2,14 +2,14 @@
 -- By its tests; a stride is at most seven.
 use Rattle.std.proofs.Common.{ℕ, ◌≤◌, Bool, true, false, eqb, leb, arith, ne_eqb, le-leb}
 use borrow.Author.Tests.{lt-leb}
-use Rattle.notation.specs.Choice.{if◌then◌else◌}
+use Rattle.notation.specs.Choice.{when◌then◌else◌}
 use Rattle.wording.specs.Filling.{behind, stride_of}
 use Rattle.wording.proofs.filling.behind.Goals as goal
 
 at-most-seven : (field v : ℕ) → stride_of field v ≤ 7
 at-most-seven field v = by (eqb field 1) (eqb field 4) (eqb field 11) (eqb v 3) (leb v 1)
   where
-    by : (a b c d e : Bool) → (if a then if d then 1 else 3 else if b then if d then 1 else 7 else if c then if e then 1 else 2 else 1) ≤ 7
+    by : (a b c d e : Bool) → (when a then when d then 1 else 3 else when b then when d then 1 else 7 else when c then when e then 1 else 2 else 1) ≤ 7
     by true b c true e = omega arith
     by true b c false e = omega arith
     by false true c true e = omega arith

@@ -1,13 +1,13 @@
 -- `line_of` is the line of a place.
 -- What is left to count, from where the loop is, gives what the whole does.
 use Rattle.std.proofs.Common.{◌≡◌, ℕ, ◌+◌, ◌<◌, ◌≤◌, eqb, List, length, get_or, drop, sym, refl, ap, ◌∙◌, arith, drop_of_length-le, eq-eqb, ne_eqb}
-use Rattle.notation.specs.Choice.{if◌then◌else◌}
+use Rattle.notation.specs.Choice.{when◌then◌else◌}
 use Rattle.notation.proofs.Elements.{next}
 use Rattle.wording.specs.Places.{line_feeds, line_of}
 use Rattle.wording.proofs.places.line_of.Goals as goal
 
 -- the next byte, and those behind it
-onward : (t : List ℕ) (n i : ℕ) → i < length t → line_feeds n (drop i t) ≡ line_feeds (if eqb (get_or t i 0) 10 then n + 1 else n) (drop (i + 1) t)
+onward : (t : List ℕ) (n i : ℕ) → i < length t → line_feeds n (drop i t) ≡ line_feeds (when eqb (get_or t i 0) 10 then n + 1 else n) (drop (i + 1) t)
 onward t n i h = ap (line_feeds n) (next t i 0 h)
 
 pub loop-i-init : goal.loop-i-init
