@@ -2,12 +2,8 @@
 -- Two tests over the code's own array, which the checker computes.
 use mathlib.Core.Path.{refl}
 use Rattle.srgb10.specs.Curve.{near, right, rising, rising_from}
-use Rattle.srgb10.proofs.table.entries.Statement.{statement}
-use Rattle.srgb10.proofs.table.entries.Tie as tie
+use Rattle.srgb10.proofs.table.entries.Goals as goal
 
-returns : tie.Need-returns
+pub returns : goal.returns
 unfolding near right rising rising_from
 returns c = record { long = refl; is_right = tt; rises = tt }
-
-pub entries-spec : {M : Type 1} → statement M
-entries-spec = tie.close (tie.spec returns)
