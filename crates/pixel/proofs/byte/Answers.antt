@@ -5,7 +5,6 @@ use mathlib.Core.Path.{◌≡◌, ap, sym, ◌∙◌}
 use native.Mathlib.Nat.{div-zero, zero-div}
 use native.Mathlib.Omega.{arith}
 use Rattle.nearest.specs.Nearest.{byte_of, ⟨◌-◌⟩/◌}
-use borrow.Author.Rules.{rules}
 use Rattle.pixel.proofs.byte.Goals as goal
 
 none : (a b : ℕ) → 0 ≡ byte_of (⟨ a - b ⟩/ 0)

@@ -3,7 +3,6 @@
 use native.Mathlib.Omega.{arith}
 use Rattle.weights.specs.Weights.{whole, red_factor, blue_factor}
 use Rattle.pixel.proofs.Weighed.{product}
-use borrow.Author.Rules.{rules}
 use Rattle.pixel.proofs.factors_of.Goals as goal
 
 pub overflow_mul-kg : goal.overflow_mul-kg

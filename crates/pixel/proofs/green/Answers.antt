@@ -1,6 +1,5 @@
 -- `green` is the byte of its fraction.
 -- By the contracts of `scaled` and `byte`.
-use borrow.Author.Rules.{rules}
 use Rattle.pixel.proofs.green.Goals as goal
 
 pub returns : goal.returns

@@ -1,7 +1,6 @@
 -- `rgb` is `rgb_by`.
 -- Each of the three, by its contract.
 use Rattle.pixel.specs.Factors.{rgb_by}
-use borrow.Author.Rules.{rules}
 use Rattle.pixel.proofs.rgb.Goals as goal
 
 pub returns : goal.returns
