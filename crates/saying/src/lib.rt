@@ -1,11 +1,14 @@
-// What the programs say on standard error. A program has no exit status of its own, so a refusal also puts a byte on descriptor 3, where one is open.
+// What the programs say on standard error. A refusal also puts a byte on descriptor 3, where one is open, and the program's own status stays 0.
 #![tactic(auto)]
 
 ghost use Rattle.std.specs.Prelude.{◌≤◌};
 
-use libc::STDERR_FILENO;
+use std::fs::OpenOptions;
+use std::io;
+use std::io::Write;
+use std::rt::Files;
 
-const STATUS_FILENO: i32 = 3;
+const STATUS: &str = "/dev/fd/3";
 
 pub fn least(a: usize, b: usize) -> usize
     ensures { (result ≤ a) × (result ≤ b) }
@@ -14,74 +17,74 @@ pub fn least(a: usize, b: usize) -> usize
 }
 
 // Writes the bytes between two places, those of them that there are.
-pub fn write_part(fd: i32, bytes: &[u8], from: usize, to: usize) -> bool {
+pub fn write_part(out: &impl Print, bytes: &[u8], from: usize, to: usize) -> io::Result<()> {
     let end = least(to, bytes.len());
     let start = least(from, end);
-    io::write_all(fd, &bytes[start..end])
+    out.write_all(&bytes[start..end])
 }
 
-// How a refusal begins.
-pub fn begin(program: &[u8]) {
-    io::write_all(STATUS_FILENO, b"1");
-    io::write_all(STDERR_FILENO, program);
-    io::write_all(STDERR_FILENO, b": ");
+fn mark(rt: &impl Files) -> io::Result<()> {
+    let mut status = OpenOptions::new().append(true).open(rt, STATUS)?;
+    status.write_all(b"1")
+}
+
+// How a refusal begins. Where descriptor 3 isn't open, no byte is put there.
+pub fn begin(rt: &(impl Eprint + Files), program: &str) -> io::Result<()> {
+    let _ = mark(rt);
+    eprint!(rt; "{program}: ")
 }
 
 // A refusal in words.
-pub fn refuse(program: &[u8], words: &[u8]) {
-    begin(program);
-    io::write_all(STDERR_FILENO, words);
-    io::write_all(STDERR_FILENO, b"\n");
+pub fn refuse(rt: &(impl Eprint + Files), program: &str, words: &str) -> io::Result<()> {
+    begin(rt, program)?;
+    eprintln!(rt; "{words}")
 }
 
-fn of_planning(number: u64) -> bool {
+fn of_planning(number: u64) -> &'static str {
     match number {
-        1 => io::write_all(STDERR_FILENO, b": a side is an ICC profile"),
-        2 => io::write_all(STDERR_FILENO, b": a coordinate or g lies outside its range"),
-        3 => io::write_all(
-            STDERR_FILENO,
-            b": the source is Unknown, or the target Xyb or Unknown",
-        ),
-        15 => io::write_all(STDERR_FILENO, b": the Unknown curve is retired"),
-        _ => true,
+        1 => ": a side is an ICC profile",
+        2 => ": a coordinate or g lies outside its range",
+        3 => ": the source is Unknown, or the target Xyb or Unknown",
+        15 => ": the Unknown curve is retired",
+        _ => "",
     }
 }
 
-fn of_a_block(number: u64) -> bool {
+fn of_a_block(number: u64) -> &'static str {
     match number {
-        7 => io::write_all(STDERR_FILENO, b": the block ends early"),
-        8 => io::write_all(STDERR_FILENO, b": wrong mark or version"),
-        9 => io::write_all(STDERR_FILENO, b": unknown op kind or bad field"),
-        10 => io::write_all(
-            STDERR_FILENO,
-            b": start width not 1 or 3, count above 32, or a false end width",
-        ),
-        12 => io::write_all(STDERR_FILENO, b": the buffer is too short"),
-        _ => true,
+        7 => ": the block ends early",
+        8 => ": wrong mark or version",
+        9 => ": unknown op kind or bad field",
+        10 => ": start width not 1 or 3, count above 32, or a false end width",
+        12 => ": the buffer is too short",
+        _ => "",
     }
 }
 
-fn of_a_run(number: u64) -> bool {
+fn of_a_run(number: u64) -> &'static str {
     match number {
-        4 => io::write_all(STDERR_FILENO, b": lengths are unequal"),
-        5 => io::write_all(STDERR_FILENO, b": an op needs another width"),
-        6 => io::write_all(STDERR_FILENO, b": an op is not carried"),
-        11 => io::write_all(STDERR_FILENO, b": no run is open"),
-        _ => true,
+        4 => ": lengths are unequal",
+        5 => ": an op needs another width",
+        6 => ": an op is not carried",
+        11 => ": no run is open",
+        _ => "",
     }
 }
 
 // A refusal by number, with 01's words, and its position where that says more.
-pub fn refuse_by(program: &[u8], number: u64, position: u64) {
-    begin(program);
-    io::write_all(STDERR_FILENO, b"refused ");
-    io::print_decimal(STDERR_FILENO, number);
+pub fn refuse_by(
+    rt: &(impl Eprint + Files),
+    program: &str,
+    number: u64,
+    position: u64,
+) -> io::Result<()> {
+    begin(rt, program)?;
+    eprint!(rt; "refused {number}")?;
     if (number == 5) | (number == 6) {
-        io::write_all(STDERR_FILENO, b" at ");
-        io::print_decimal(STDERR_FILENO, position);
+        eprint!(rt; " at {position}")?;
     }
-    of_planning(number);
-    of_a_block(number);
-    of_a_run(number);
-    io::write_all(STDERR_FILENO, b"\n");
+    let planning = of_planning(number);
+    let block = of_a_block(number);
+    let run = of_a_run(number);
+    eprintln!(rt; "{planning}{block}{run}")
 }
