@@ -4,7 +4,8 @@
 ghost use Rattle.std.specs.Prelude.{◌≡◌, ◌+◌, ◌≤◌, ◌<◌, length};
 ghost use Rattle.lines.specs.Turns.{Falls, count_of};
 
-use libc::STDIN_FILENO;
+use std::io;
+use std::io::Read;
 
 // How far a program is with its input: the line in hand, if it has one, is the bytes from start to end of its buffer, and
 // those from next to filled are read and not yet handed out.
@@ -45,10 +46,10 @@ fn line_end(s: &[u8], from: usize) -> usize
 }
 
 // Finds the next line, or else reads on. Where the input ends, what is left is a line too.
-pub fn next(buf: &mut [u8; 65536], p: Progress) -> Progress
+pub fn next(rt: &impl io::Input, buf: &mut [u8; 65536], p: Progress) -> Progress
     ensures { Falls p result }
 {
-    next_in(buf, p)
+    next_in(rt, buf, p)
 }
 
 fn ended(p: Progress) -> Progress
@@ -64,7 +65,7 @@ fn ended(p: Progress) -> Progress
     }
 }
 
-fn next_in(buf: &mut [u8], p: Progress) -> Progress
+fn next_in(rt: &impl io::Input, buf: &mut [u8], p: Progress) -> Progress
     ensures { Falls p result }
 {
     let from = p.next;
@@ -90,7 +91,7 @@ fn next_in(buf: &mut [u8], p: Progress) -> Progress
             turns: turns - 1,
         };
     }
-    read_on(buf, from, filled, turns)
+    read_on(rt, buf, from, filled, turns)
 }
 
 // What a read brings.
@@ -102,7 +103,7 @@ enum Input {
 }
 
 // Moves what is left to the front and reads behind it.
-fn read_on(buf: &mut [u8], from: usize, filled: usize, turns: u64) -> Progress
+fn read_on(rt: &impl io::Input, buf: &mut [u8], from: usize, filled: usize, turns: u64) -> Progress
     requires { (0 < turns) × (from ≤ filled) × (filled ≤ length buf.old) }
     ensures { result.turns < turns }
 {
@@ -116,7 +117,7 @@ fn read_on(buf: &mut [u8], from: usize, filled: usize, turns: u64) -> Progress
         filled: left,
         turns: 0,
     };
-    match read_behind(buf, left) {
+    match read_behind(rt, buf, left) {
         Input::Bytes(got) => Progress {
             has_line: false,
             start: 0,
@@ -151,20 +152,15 @@ fn read_on(buf: &mut [u8], from: usize, filled: usize, turns: u64) -> Progress
 }
 
 // Reads behind the first `left` bytes. Where the buffer is full, the input ends here too: the line is too long for a record.
-fn read_behind(buf: &mut [u8], left: usize) -> Input
+fn read_behind(rt: &impl io::Input, buf: &mut [u8], left: usize) -> Input
     requires { left ≤ length buf.old }
     ensures { left + count_of result ≤ length buf.old }
 {
-    let rest = &mut buf[left..];
-    let got = libc::read(STDIN_FILENO, rest);
-    if got < 0 {
-        return Input::Failed;
+    match rt.reader().read(&mut buf[left..]) {
+        Ok(0) => Input::End,
+        Ok(n) => Input::Bytes(n),
+        Err(_) => Input::Failed,
     }
-    let n = io::count(got, rest);
-    if n == 0 {
-        return Input::End;
-    }
-    Input::Bytes(n)
 }
 
 fn to_front(buf: &mut [u8], from: usize, to: usize)
