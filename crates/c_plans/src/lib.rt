@@ -1,4 +1,4 @@
-// Plans and lists as C functions. A list crosses the border as a plan block: the bytes that the writer makes and the reader takes.
+// Plans and lists as C is handed them. A list crosses the border as a plan block: the bytes that the writer makes and the reader takes.
 #![tactic(auto)]
 
 ghost use Rattle.std.specs.Prelude.{◌≡◌, length};
@@ -19,8 +19,7 @@ use planned::planned;
 use sent::{Sent, send, send_and_tell, tell, tell_widths};
 
 // The plan between two encodings, as a block of this version; told are its number, length, start width and end width.
-#[unsafe(no_mangle)]
-pub extern "C" fn rindsaddle_plan(
+pub fn rindsaddle_plan(
     source: &[i32; 14],
     target: &[i32; 14],
     settings: &[f32; 14],
@@ -57,8 +56,7 @@ fn read_sent(block: Block) -> Sent
 }
 
 // What the reader says of a block; told are number, length used, start width and end width. What lies behind that length is the picture's.
-#[unsafe(no_mangle)]
-pub extern "C" fn rindsaddle_read(bytes: &[u8], told: &mut [u64; 4]) -> u8
+pub fn rindsaddle_read(bytes: &[u8], told: &mut [u64; 4]) -> u8
     ensures value { result ≡ (read_sent (read_of bytes.now)).number }
     ensures told_after { told.new ≡ widths_told (read_sent (read_of bytes.now)) }
 {
@@ -81,8 +79,7 @@ fn checked(block: Block) -> Answer
 }
 
 // What the check says of a block's list; told are number, position, width and the block's version.
-#[unsafe(no_mangle)]
-pub extern "C" fn rindsaddle_check(bytes: &[u8], told: &mut [u64; 4]) -> u8
+pub fn rindsaddle_check(bytes: &[u8], told: &mut [u64; 4]) -> u8
     ensures value { result ≡ (checked_of (read_of bytes.now)).number }
     ensures told_after { told.new ≡ check_told (read_of bytes.now) }
 {
@@ -99,8 +96,7 @@ pub extern "C" fn rindsaddle_check(bytes: &[u8], told: &mut [u64; 4]) -> u8
 }
 
 // The list of a block merged, as a block of the same version; told are number, length, start width and end width.
-#[unsafe(no_mangle)]
-pub extern "C" fn rindsaddle_merge(bytes: &[u8], out: &mut [u8], told: &mut [u64; 4]) -> u8
+pub fn rindsaddle_merge(bytes: &[u8], out: &mut [u8], told: &mut [u64; 4]) -> u8
     ensures value { result ≡ (merge_sent (read_of bytes.now) (length out.old)).number }
     ensures told_after { told.new ≡ widths_told (merge_sent (read_of bytes.now) (length out.old)) }
     ensures out_after { out.new ≡ merge_left (read_of bytes.now) out.old }
@@ -115,13 +111,7 @@ pub extern "C" fn rindsaddle_merge(bytes: &[u8], out: &mut [u8], told: &mut [u64
 }
 
 // The list of a block as a block of this version; told are number, length, start width and end width.
-#[unsafe(no_mangle)]
-pub extern "C" fn rindsaddle_rewrite(
-    bytes: &[u8],
-    version: u16,
-    out: &mut [u8],
-    told: &mut [u64; 4],
-) -> u8
+pub fn rindsaddle_rewrite(bytes: &[u8], version: u16, out: &mut [u8], told: &mut [u64; 4]) -> u8
     ensures value { result ≡ (rewrite_sent (read_of bytes.now) version (length out.old)).number }
     ensures told_after { told.new ≡ widths_told (rewrite_sent (read_of bytes.now) version (length out.old)) }
     ensures out_after { out.new ≡ rewrite_left (read_of bytes.now) version out.old }
@@ -148,8 +138,7 @@ fn first_refusal(first: Reading, second: Reading, verdict: Verdict) -> Answer
 }
 
 // The list of one block behind that of another, as a block of this version; told are number, position, length and end width.
-#[unsafe(no_mangle)]
-pub extern "C" fn rindsaddle_join(
+pub fn rindsaddle_join(
     first: &[u8],
     second: &[u8],
     version: u16,
@@ -182,8 +171,7 @@ pub extern "C" fn rindsaddle_join(
 }
 
 // The text of a block's list, or of why it is refused, at the front of the buffer; the answer is its length.
-#[unsafe(no_mangle)]
-pub extern "C" fn rindsaddle_text(bytes: &[u8], out: &mut [u8; 1024]) -> usize
+pub fn rindsaddle_text(bytes: &[u8], out: &mut [u8; 1024]) -> usize
     ensures { Listed (text_of bytes.now) out.old out.new result }
 {
     listing::list(bytes, out)
