@@ -5,10 +5,7 @@ use mathlib.Core.Path.{◌≡◌, refl, sym, ◌∙◌}
 use mathlib.Core.List.{List, [], ◌∷◌, ◌++◌, map}
 use mathlib.Core.Option.{none}
 use native.Mathlib.Omega.{arith}
-use types.Run.{OneOf, miss}
-use denote.Enum.Declared.{tag_of}
 use lib.ListN.{length, take, drop, get_or}
-use Rattle.op.specs.contracts.Op as Op_kind
 use Rattle.list.specs.Lists.{op_of, plan_of, Formed, appended}
 use Rattle.op.specs.declared.Op.{Op}
 use Rattle.op.specs.declared.Op.TheVariants as O
@@ -24,12 +21,8 @@ use Rattle.merge.specs.declared.Run.{Run}
 use Rattle.merge.specs.declared.Run.TheVariants.{Empty, Product}
 use Rattle.merge.proofs.Front.{Kind, a_matrix, no_matrix, kind, absorbed, kept, kept-after, no_longer}
 
--- the variants but Matrix, by their places in the enum
-abbrev others : List ℕ
-others = 0 ∷ 1 ∷ 2 ∷ 4 ∷ 5 ∷ 6 ∷ 7 ∷ 8 ∷ 9 ∷ []
-
-stays : {o : Op} → Kind o → OneOf others (tag_of Op_kind.the_type o) → matrix_of o ≡ none
-stays (a_matrix m) k = absurd (miss others 3 tt k)
+stays : {o : Op} → Kind o → ((m : Mat3) → o ≡ O.Matrix m → ⊥) → matrix_of o ≡ none
+stays (a_matrix m) k = absurd (k m refl)
 stays (no_matrix e) k = e
 
 join : (r : Run) (m : Mat3) (os : List Op) → merge_ops (held (joined_by r m) ++ os) ≡ merge_ops (held r ++ (O.Matrix m ∷ os))
@@ -50,7 +43,7 @@ module _ (n : ℕ) (ss : List Slot) (i : ℕ) (out : Plan) (r : Run) where
         → appended out' (merge_ops (held r' ++ drop (i + 1) (map op_of (take n ss)))) ≡ appended out (merge_ops (held r ++ drop i (map op_of (take n ss))))
     matrix-turn {m} a b s t = rw (next-op n ss i d h k, a, s, t, b, join r m (drop (i + 1) (map op_of (take n ss))))
 
-    pub other-turn : {mid p : Plan} → OneOf others (tag_of Op_kind.the_type (op_of (get_or ss i d))) → mid ≡ appended out (held r) → p ≡ appended mid (op_of (get_or ss i d) ∷ []) → out' ≡ p → r' ≡ Empty
+    pub other-turn : {mid p : Plan} → ((m : Mat3) → op_of (get_or ss i d) ≡ O.Matrix m → ⊥) → mid ≡ appended out (held r) → p ≡ appended mid (op_of (get_or ss i d) ∷ []) → out' ≡ p → r' ≡ Empty
         → appended out' (merge_ops (held r' ++ drop (i + 1) (map op_of (take n ss)))) ≡ appended out (merge_ops (held r ++ drop i (map op_of (take n ss))))
     other-turn v a b s t =
         let os = drop (i + 1) (map op_of (take n ss)) in

@@ -1,0 +1,17 @@
+-- `merge::merge` meets its contract.
+-- A list that is not lawful is refused, and the loop asks for a lawful one.
+use mathlib.Core.Path.{sym, ◌∙◌}
+use borrow.Author.Tests.{not-true, not-false}
+use Rattle.list.proofs.Formed.{lawful-exactly}
+use borrow.Author.Rules.{rules}
+use Rattle.merge.proofs.merge.Goals as goal
+
+pub returns-then-not-lawful : goal.returns-then-not-lawful
+returns-then-not-lawful c = rw (← c.lawful.ensures, c.if-not-lawful.true, c.empty.ensures)
+
+pub merge_ops-requires : goal.merge_ops-requires
+merge_ops-requires c =
+    ((lawful-exactly c.args.plan).0 (sym c.lawful.ensures ∙ c.if-not-lawful.false)).0
+
+pub returns : goal.returns
+returns c = rw (← c.lawful.ensures, c.if-not-lawful.false, c.merge_ops.ensures)
