@@ -3,13 +3,9 @@
 use mir.Syntax.{w32}
 use Rattle.encoding.proofs.Deciding.{by_bits}
 use borrow.Author.Rules.{rules}
-use Rattle.encoding.proofs.named.same_point.Statement.{statement}
-use Rattle.encoding.proofs.named.same_point.Tie as tie
+use Rattle.encoding.proofs.named.same_point.Goals as goal
 
-returns : tie.Need-returns
+pub returns : goal.returns
 returns c =
-    let a = c.before.before.before.before.before.before.before.before.args in
+    let a = c.args in
     rw (by_bits w32 a.p.x a.q.x (search rules) (search rules), by_bits w32 a.p.y a.q.y (search rules) (search rules))
-
-pub same-point-spec : {M : Type 1} → statement M
-same-point-spec = tie.close (tie.spec returns)

@@ -12,8 +12,7 @@ use Rattle.op.specs.declared.Curve.{Curve}
 use Rattle.op.specs.declared.Curve.TheVariants as C
 use Rattle.encoding.specs.Ranges.{gamma_in_range}
 use borrow.Author.Rules.{rules}
-use Rattle.encoding.proofs.ranges.gamma_in_range.Statement.{statement}
-use Rattle.encoding.proofs.ranges.gamma_in_range.Tie as tie
+use Rattle.encoding.proofs.ranges.gamma_in_range.Goals as goal
 
 -- the variants but Gamma, by their places in the enum
 abbrev others : List ℕ
@@ -29,14 +28,6 @@ no-gamma C.Pq k = refl
 no-gamma C.Dci k = refl
 no-gamma C.Hlg k = refl
 
-enum-known-tf : tie.Need-enum-known-tf
-enum-known-tf c = search rules
+pub returns-in-Gamma : goal.returns-in-Gamma
+returns-in-Gamma c = rw c.in-Gamma.is
 
-returns : tie.Need-returns
-returns c = rw c.before.tf.given.1
-
-returns-2 : tie.Need-returns-2
-returns-2 c = no-gamma c.before.args.tf c.match.keys2
-
-pub gamma-in-range-spec : {M : Type 1} → statement M
-gamma-in-range-spec = tie.close (tie.spec enum-known-tf returns returns-2)

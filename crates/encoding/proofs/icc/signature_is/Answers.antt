@@ -10,8 +10,7 @@ use lib.ListN.{length, take, drop, get_or}
 use lib.Seq.{drop-cons}
 use Rattle.encoding.specs.Icc.{signature_is}
 use borrow.Author.Rules.{rules}
-use Rattle.encoding.proofs.icc.signature_is.Statement.{statement}
-use Rattle.encoding.proofs.icc.signature_is.Tie as tie
+use Rattle.encoding.proofs.icc.signature_is.Goals as goal
 
 four : (s : List ℕ) → 20 ≤ length s → take 4 (drop 16 s) ≡ get_or s 16 0 ∷ get_or s 17 0 ∷ get_or s 18 0 ∷ get_or s 19 0 ∷ []
 four s h = rw (drop-cons s 16 0 (omega arith), drop-cons s 17 0 (omega arith), drop-cons s 18 0 (omega arith), drop-cons s 19 0 (omega arith))
@@ -20,29 +19,7 @@ compared : (s : List ℕ) (a b c d : ℕ) → 20 ≤ length s
     → (eqb (get_or s 16 0) a && eqb (get_or s 17 0) b && eqb (get_or s 18 0) c && eqb (get_or s 19 0) d) ≡ signature_is (a ∷ b ∷ c ∷ d ∷ []) s
 compared s a b c d h = rw (four s h) (simp (and_assoc, and-true))
 
-shared-slice-read-result : tie.Need-shared-slice-read-result
-shared-slice-read-result c = search rules
-
-shared-slice-read-result-2 : tie.Need-shared-slice-read-result-2
-shared-slice-read-result-2 c = search rules
-
-shared-slice-read-result-3 : tie.Need-shared-slice-read-result-3
-shared-slice-read-result-3 c = search rules
-
-shared-slice-read-result-4 : tie.Need-shared-slice-read-result-4
-shared-slice-read-result-4 c = search rules
-
-returns : tie.Need-returns
+pub returns : goal.returns
 returns c =
-    let s = c.before.before.before.before in
+    let s = c in
     compared s.args.profile.now s.args.a s.args.b s.args.c s.args.d s.requires
-
-pub signature-is-spec : {M : Type 1} → statement M
-signature-is-spec =
-    tie.close
-    (tie.spec
-    shared-slice-read-result
-    shared-slice-read-result-2
-    shared-slice-read-result-3
-    shared-slice-read-result-4
-    returns)
