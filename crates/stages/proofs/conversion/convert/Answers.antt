@@ -1,0 +1,16 @@
+-- `stages::conversion::convert` meets its contract.
+-- The ops of its steps, one after the other, are those of `convert_ops`.
+use borrow.Author.Tests.{not-true, not-false}
+use Rattle.stages.specs.Stages.{limit_op, to_xyz_op, adapt_ops, from_xyz_op}
+use Rattle.stages.proofs.Appending.{around}
+use borrow.Author.Rules.{rules}
+use Rattle.stages.proofs.conversion.convert.Goals as goal
+
+pub returns-then-not-differs : goal.returns-then-not-differs
+returns-then-not-differs c = rw (← c.differs.ensures, c.if-not-differs.true) c.kept.ensures
+
+pub returns : goal.returns
+returns c =
+    let a = c.args in
+    rw (← c.differs.ensures, c.if-not-differs.false, c.push.ensures, c.adapt-adapted.ensures, c.push-xyz.ensures, c.push-limited.ensures, c.from_xyz_op.ensures, c.to_xyz_op.ensures, c.limit_op.ensures)
+    (around a.out (limit_op a.current) (to_xyz_op a.current) (adapt_ops a.current a.target) (from_xyz_op a.target))
