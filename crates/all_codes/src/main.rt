@@ -1,7 +1,7 @@
 // All codes and all levels: digests of the levels and of the codes that the library answers, and counts. `oracle codes-census` works out the same lines.
 #![tactic(auto)]
 
-use libc::STDOUT_FILENO;
+use std::io;
 
 #[derive(Clone, Copy)]
 struct Tally {
@@ -62,22 +62,21 @@ fn with_level(tally: Tally, level: u16) -> Tally {
     next
 }
 
-fn print(text: &[u8], number: u64) {
-    io::write_all(STDOUT_FILENO, text);
-    io::print_decimal(STDOUT_FILENO, number);
+fn print(rt: &impl Print, text: &str, number: u64) -> io::Result<()> {
+    print!(rt; "{text}{number}")
 }
 
-fn report(tally: Tally) {
-    print(b"1024 codes, digest of their levels ", tally.levels);
-    print(b"\n65536 levels, digest of their codes ", tally.codes);
-    print(b"\ncodes that return to themselves ", tally.returning);
-    print(b"\ncodes above 1023 with a level ", tally.above);
-    print(b"\nties ", tally.ties);
-    print(b", the first at level ", tally.first);
-    io::write_all(STDOUT_FILENO, b"\n");
+fn report(rt: &impl Print, tally: Tally) -> io::Result<()> {
+    print(rt, "1024 codes, digest of their levels ", tally.levels)?;
+    print(rt, "\n65536 levels, digest of their codes ", tally.codes)?;
+    print(rt, "\ncodes that return to themselves ", tally.returning)?;
+    print(rt, "\ncodes above 1023 with a level ", tally.above)?;
+    print(rt, "\nties ", tally.ties)?;
+    print(rt, ", the first at level ", tally.first)?;
+    rt.println("")
 }
 
-fn main() {
+fn main(rt: HostRuntime) -> io::Result<()> {
     let mut tally = Tally {
         levels: 0,
         codes: 0,
@@ -91,5 +90,5 @@ fn main() {
         tally = with_level(with_code(tally, n as u16), n as u16);
         n += 1;
     }
-    report(tally);
+    report(&rt, tally)
 }
