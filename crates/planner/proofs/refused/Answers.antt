@@ -1,0 +1,7 @@
+-- `planner::refused` meets its contract.
+-- Its list is the empty one.
+use borrow.Author.Rules.{rules}
+use Rattle.planner.proofs.refused.Goals as goal
+
+pub returns : goal.returns
+returns c = rw c.empty-plan.ensures
