@@ -1,0 +1,12 @@
+-- `read_samples` is safe and ends.
+-- Each turn is one sample further, and the slice keeps its length.
+use Prim.Native.Nat.{◌≤◌, ◌-◌}
+use mathlib.Core.Path.{◌≡◌}
+use lib.ListN.{length}
+use Rattle.record.proofs.samples.read_samples.Given as goal
+
+abbrev pub invariant-loop-i : goal.invariant-loop-i
+invariant-loop-i l = (l.i ≤ length l.initial.samples) × (length l.samples ≡ length l.initial.samples)
+
+abbrev pub decreases-loop-i : goal.decreases-loop-i
+decreases-loop-i l = length l.initial.samples - l.i
