@@ -5,14 +5,10 @@ use lib.Dec.{T}
 use lib.Ieee.{le, neg}
 use Rattle.channels.proofs.Holds.{both_hold}
 use Rattle.xyb.proofs.Range.{bias_is, least_bias, most_bias}
-use Rattle.xyb.proofs.window.is_bias.Statement.{statement}
-use Rattle.xyb.proofs.window.is_bias.Tie as tie
+use Rattle.xyb.proofs.window.is_bias.Goals as goal
 
-returns : tie.Need-returns
+pub returns : goal.returns
 returns c = λ e.
     let x = c.args.c in
     let t = both_hold (le least_bias (neg x)) (le (neg x) most_bias) e in
     bias_is c.args.c (subst T (sym c.well_formed.0.1) tt) (subst T (sym t.0) tt) (subst T (sym t.1) tt)
-
-pub is-bias-spec : {M : Type 1} → statement M
-is-bias-spec = tie.close (tie.spec returns)

@@ -8,10 +8,9 @@ use Rattle.notation.specs.F32.{◌+f◌}
 use Rattle.channels.proofs.Holds.{both_hold}
 use Rattle.xyb.specs.Steps.{least, most}
 use Rattle.xyb.proofs.Range.{all_within}
-use Rattle.xyb.proofs.window.are_within.Statement.{statement}
-use Rattle.xyb.proofs.window.are_within.Tie as tie
+use Rattle.xyb.proofs.window.are_within.Goals as goal
 
-returns : tie.Need-returns
+pub returns : goal.returns
 returns c = λ e.
     let a = c.args in
     let g = c.well_formed in
@@ -19,6 +18,3 @@ returns c = λ e.
     let s = both_hold (le least a.l && le least a.m) (le least a.s) t.0 in
     let m = both_hold (le least a.l) (le least a.m) s.0 in
     all_within a.l a.m a.s (subst T (sym g.0.1) tt) (subst T (sym g.1.0.1) tt) (subst T (sym g.1.1.0.1) tt) (subst T (sym m.0) tt) (subst T (sym m.1) tt) (subst T (sym s.1) tt) (subst T (sym t.1) tt)
-
-pub are-within-spec : {M : Type 1} → statement M
-are-within-spec = tie.close (tie.spec returns)
