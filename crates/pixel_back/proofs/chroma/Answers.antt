@@ -1,7 +1,6 @@
 -- `chroma` is the byte of its fraction.
 -- By the contract of `nearest_byte`; both products are below 2^26.
 use native.Mathlib.Omega.{arith}
-use borrow.Author.Rules.{rules}
 use Rattle.pixel_back.proofs.Small.{by_byte}
 use Rattle.pixel_back.proofs.chroma.Goals as goal
 

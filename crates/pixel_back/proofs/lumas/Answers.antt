@@ -1,7 +1,6 @@
 -- `lumas` is the weighed sum.
 -- Each product is below 2^26.
 use native.Mathlib.Omega.{arith}
-use borrow.Author.Rules.{rules}
 use Rattle.pixel_back.proofs.Small.{by_byte}
 use Rattle.pixel_back.proofs.lumas.Goals as goal
 

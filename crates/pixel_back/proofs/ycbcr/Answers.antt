@@ -1,7 +1,6 @@
 -- `ycbcr` is `ycbcr_of`.
 -- Each of the three, by its contract.
 use Rattle.luma.specs.Ycbcr.{ycbcr_of}
-use borrow.Author.Rules.{rules}
 use Rattle.pixel_back.proofs.ycbcr.Goals as goal
 
 pub returns : goal.returns
