@@ -1,0 +1,53 @@
+-- `ycbcr_each` converts each pixel.
+-- The loop argument is `Converting`'s, for the function `ycbcr_of w`.
+use Prim.Native.Nat.{◌-◌}
+use native.Mathlib.Omega.{arith}
+use borrow.Author.Rules.{rules}
+use lib.ListN.{length}
+use Rattle.luma.specs.Ycbcr.{ycbcr_of}
+use Rattle.planes.proofs.Converting.{Converted, converted, converting_begun, converting-ended}
+use Rattle.rgb_bytes.proofs.ycbcr_each.Goals as goal
+
+pub loop-i-init : goal.loop-i-init
+loop-i-init c = converting_begun _ _ _ _ _ _ _ c.requires
+
+pub bounds-r-i : goal.bounds-r-i
+bounds-r-i c = omega arith
+
+pub bounds-g-i : goal.bounds-g-i
+bounds-g-i c = omega arith
+
+pub bounds-b-i : goal.bounds-b-i
+bounds-b-i c = omega arith
+
+pub bounds-cb-i : goal.bounds-cb-i
+bounds-cb-i c = omega arith
+
+pub bounds-y-i : goal.bounds-y-i
+bounds-y-i c = omega arith
+
+pub bounds-cr-i : goal.bounds-cr-i
+bounds-cr-i c = omega arith
+
+pub overflow_add-i : goal.overflow_add-i
+overflow_add-i c = omega arith
+
+pub loop-i-smaller : goal.loop-i-smaller
+loop-i-smaller c = omega arith
+
+pub loop-i-preserved : goal.loop-i-preserved
+loop-i-preserved c =
+    let l = c.before.before.before.before.before in
+    converted l.loop-i.invariant c.ycbcr-out.result (omega arith) c.ycbcr-out.ensures
+
+pub shape_of-cb : goal.shape_of-cb
+shape_of-cb c = c.loop-i.invariant.on_r.long
+
+pub shape_of-y : goal.shape_of-y
+shape_of-y c = c.loop-i.invariant.on_g.long
+
+pub shape_of-cr : goal.shape_of-cr
+shape_of-cr c = c.loop-i.invariant.on_b.long
+
+pub returns : goal.returns
+returns c = converting-ended c.loop-i.invariant (omega arith)
