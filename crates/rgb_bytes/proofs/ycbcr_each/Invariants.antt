@@ -1,11 +1,9 @@
 -- `ycbcr_each` converts each pixel.
 -- The loop argument is `Converting`'s, for the function `ycbcr_of w`.
 use Prim.Native.Nat.{◌-◌}
-use native.Mathlib.Omega.{arith}
-use borrow.Author.Rules.{rules}
 use lib.ListN.{length}
 use Rattle.luma.specs.Ycbcr.{ycbcr_of}
-use Rattle.planes.proofs.Converting.{Converted, converted, converting_begun, converting-ended}
+use Rattle.planes.proofs.Converting.{Converted}
 use Rattle.rgb_bytes.proofs.ycbcr_each.Given as goal
 
 abbrev pub invariant-loop-i : goal.invariant-loop-i

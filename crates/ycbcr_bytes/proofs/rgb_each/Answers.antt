@@ -1,11 +1,7 @@
 -- `rgb_each` converts each pixel.
 -- The loop argument is `Converting`'s, for the function `rgb_by f`.
-use Prim.Native.Nat.{◌-◌}
 use native.Mathlib.Omega.{arith}
-use borrow.Author.Rules.{rules}
-use lib.ListN.{length}
-use Rattle.pixel.specs.Factors.{rgb_by}
-use Rattle.planes.proofs.Converting.{Converted, converted, converting_begun, converting-ended}
+use Rattle.planes.proofs.Converting.{converted, converting_begun, converting-ended}
 use Rattle.ycbcr_bytes.proofs.rgb_each.Goals as goal
 
 pub loop-i-init : goal.loop-i-init
