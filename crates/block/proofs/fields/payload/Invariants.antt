@@ -1,0 +1,18 @@
+-- `fields::payload` meets its contract.
+-- The invariant: the bytes of the fields that are left, with those counted already, are the bytes of all.
+use Prim.Native.Nat.{◌+◌, ◌-◌, ◌≤◌}
+use mathlib.Core.Path.{◌≡◌}
+use native.Mathlib.Omega.{arith}
+use borrow.Author.Rules.{rules}
+use lib.ListN.{take, drop, length-map, length-take}
+use Rattle.parts.specs.Parts.{field_in}
+use Rattle.parts.proofs.Below.{none_below}
+use Rattle.block.specs.Fields.{bytes_of}
+use Rattle.block.proofs.Walking.{bytes_small, fields_below, bytes_next}
+use Rattle.block.proofs.fields.payload.Given as goal
+
+abbrev pub invariant-loop-i : goal.invariant-loop-i
+invariant-loop-i l = (l.i ≤ l.count) × (l.size + bytes_of (drop l.i (fields_below l.count l.cells)) ≡ bytes_of (fields_below l.count l.cells))
+
+abbrev pub decreases-loop-i : goal.decreases-loop-i
+decreases-loop-i l = l.count - l.i

@@ -1,0 +1,16 @@
+-- `read_ops` meets its contract.
+-- The invariant: what is read from here, put behind what is read already, is what the whole is.
+use Prim.Native.Nat.{◌-◌, ◌≤◌}
+use mathlib.Core.Path.{◌≡◌, ◌∙◌}
+use native.Mathlib.Omega.{arith}
+use borrow.Author.Rules.{rules}
+use lib.ListN.{length, drop}
+use Rattle.block.specs.Block.{head_of, ops_in, listed}
+use Rattle.block.proofs.Turn.{from, begun, Kept, begun_kept, pushed_kept, goes, fits, stops, ends}
+use Rattle.block.proofs.read_ops.Given as goal
+
+abbrev pub invariant-loop-i : goal.invariant-loop-i
+invariant-loop-i l = (l.i ≤ l.count) × (l.used ≤ length l.s) × (from l.version l.plan l.used (ops_in (l.count - l.i) (drop l.used l.s)) ≡ listed l.version l.start (ops_in l.count (drop (head_of l.version) l.s))) × Kept l.plan
+
+abbrev pub decreases-loop-i : goal.decreases-loop-i
+decreases-loop-i l = l.count - l.i
