@@ -1,0 +1,40 @@
+-- `narrow` makes each byte by the index rule where the lengths fit, and changes nothing where they do not.
+-- The test of the lengths decides; the loop argument is `Rewriting`'s, for the narrowed line.
+use Prim.Native.Nat.{◌+◌, ◌-◌, ◌/◌, ◌<◌}
+use mathlib.Core.Path.{◌≡◌, sym, ◌∙◌}
+use mathlib.Core.Bool.{true}
+use native.Mathlib.Omega.{arith}
+use borrow.Author.Rules.{rules}
+use borrow.Author.Tests.{not-false, not-true}
+use lib.ListN.{length}
+use Rattle.notation.proofs.Rewriting.{Rewritten, begun, ended, write}
+use Rattle.half.specs.Narrowing.{narrowed, narrowed_at}
+use Rattle.half.specs.Twice.{fits_twice}
+use Rattle.half.proofs.Lines.{length-line, line_at}
+use Rattle.half.proofs.Twice.{halves_exactly}
+use Rattle.half.proofs.narrow.Goals as goal
+
+pub bounds-out-i : goal.bounds-out-i
+bounds-out-i c = omega arith
+
+pub overflow_add-i : goal.overflow_add-i
+overflow_add-i c = omega arith
+
+pub loop-i-smaller : goal.loop-i-smaller
+loop-i-smaller c = omega arith
+
+pub shape_of-out : goal.shape_of-out
+shape_of-out c = c.loop-i.invariant.long
+
+pub loop-i-init : goal.loop-i-init
+loop-i-init c =
+    let f = (halves_exactly (length c.args.out.now) (length c.args.c.now)).0 (sym c.fits_twice.ensures ∙ c.if-not-fits_twice.false) in
+    begun _ _ (length-line _ _ ∙ sym f)
+
+pub loop-i-preserved : goal.loop-i-preserved
+loop-i-preserved c =
+    let z = c.args in
+    let f : length z.out.now ≡ (length z.c.now + 1) / 2 = (halves_exactly (length z.out.now) (length z.c.now)).0 (sym c.fits_twice.ensures ∙ c.if-not-fits_twice.false) in
+    let h : c.loop-i.i < length z.out.now = omega arith in
+    let k : c.loop-i.i < (length z.c.now + 1) / 2 = omega arith in
+    write c.loop-i.invariant 0 _ h (c.narrowed_at.ensures ∙ sym (line_at _ (narrowed_at z.c.now) c.loop-i.i k))

@@ -1,0 +1,10 @@
+-- `paper` gives the papers' answer for each case.
+-- Each arm rewrites with the case that it took.
+use borrow.Author.Rules.{rules}
+use Rattle.half.proofs.paper.Goals as goal
+
+pub returns-in-Done : goal.returns-in-Done
+returns-in-Done c = rw c.in-Done.is
+
+pub returns-in-Unfit : goal.returns-in-Unfit
+returns-in-Unfit c = rw c.in-Unfit.is
