@@ -1,14 +1,13 @@
 -- `apart::floats` meets its contract.
 -- The zeros are rewritten by the floats, cell by cell.
-use Prim.Native.Nat.{◌-◌}
 use mathlib.Core.Path.{◌≡◌, sym, ap}
-use mathlib.Core.List.{List, map}
+use mathlib.Core.List.{List}
 use native.Mathlib.Omega.{arith}
 use borrow.Author.Rules.{rules}
 use lib.Ieee.{nan}
 use lib.ListN.{length}
 use Rattle.notation.proofs.Elements.{map_at}
-use Rattle.notation.proofs.Rewriting.{Rewritten, map-begun, write, ended}
+use Rattle.notation.proofs.Rewriting.{map-begun, write, ended}
 use Rattle.parts.specs.Parts.{float_cell}
 use Rattle.parts.specs.declared.Cell.{Cell}
 use Rattle.parts.proofs.apart.floats.Goals as goal

@@ -1,16 +1,11 @@
 -- `apart::floats` meets its contract.
 -- The zeros are rewritten by the floats, cell by cell.
 use Prim.Native.Nat.{◌-◌}
-use mathlib.Core.Path.{◌≡◌, sym, ap}
-use mathlib.Core.List.{List, map}
-use native.Mathlib.Omega.{arith}
-use borrow.Author.Rules.{rules}
-use lib.Ieee.{nan}
+use mathlib.Core.Path.{◌≡◌}
+use mathlib.Core.List.{map}
 use lib.ListN.{length}
-use Rattle.notation.proofs.Elements.{map_at}
-use Rattle.notation.proofs.Rewriting.{Rewritten, map-begun, write, ended}
+use Rattle.notation.proofs.Rewriting.{Rewritten}
 use Rattle.parts.specs.Parts.{float_cell}
-use Rattle.parts.specs.declared.Cell.{Cell}
 use Rattle.parts.proofs.apart.floats.Given as goal
 
 abbrev pub invariant-loop-i : goal.invariant-loop-i

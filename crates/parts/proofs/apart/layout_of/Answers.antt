@@ -3,7 +3,6 @@
 use mathlib.Core.Path.{ap, ◌∙◌}
 use Rattle.parts.specs.Parts.{parts_of}
 use Rattle.parts.proofs.EachKind.{blanks_are}
-use borrow.Author.Rules.{rules}
 use Rattle.parts.proofs.apart.layout_of.Goals as goal
 
 pub returns : goal.returns

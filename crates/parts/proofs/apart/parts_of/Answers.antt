@@ -2,7 +2,6 @@
 -- Each arm is a clause of `kind_of` and `values_of`, once the op is known to be its variant.
 use mathlib.Core.Path.{ap, sym, ◌∙◌}
 use Rattle.parts.specs.Parts.{parts_of}
-use borrow.Author.Rules.{rules}
 use Rattle.parts.proofs.apart.parts_of.Goals as goal
 
 pub returns-in-XybToMixedLms : goal.returns-in-XybToMixedLms

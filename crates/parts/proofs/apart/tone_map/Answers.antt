@@ -1,6 +1,5 @@
 -- `apart::tone_map` meets its contract.
 -- The cell behind the floats is written over.
-use borrow.Author.Rules.{rules}
 use Rattle.parts.proofs.apart.tone_map.Goals as goal
 
 pub returns : goal.returns

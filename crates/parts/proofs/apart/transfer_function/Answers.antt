@@ -1,6 +1,5 @@
 -- `apart::transfer_function` meets its contract.
 -- The two cells before the floats are written over.
-use borrow.Author.Rules.{rules}
 use Rattle.parts.proofs.apart.transfer_function.Goals as goal
 
 pub returns : goal.returns

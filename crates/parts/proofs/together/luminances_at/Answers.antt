@@ -1,6 +1,5 @@
 -- `together::luminances_at` meets its contract.
 -- Three floats, under other names.
-use borrow.Author.Rules.{rules}
 use Rattle.parts.proofs.together.luminances_at.Goals as goal
 
 pub returns : goal.returns

@@ -4,7 +4,6 @@ use mathlib.Core.Path.{refl}
 use mathlib.Core.List.{map}
 use Rattle.notation.proofs.Tables.{last_row, past}
 use Rattle.parts.specs.Parts.{value_of, op_rows}
-use borrow.Author.Rules.{rules}
 use Rattle.parts.proofs.together.op_by.Goals as goal
 
 pub returns-in-0 : goal.returns-in-0

@@ -1,6 +1,5 @@
 -- `together::params_at` meets its contract.
 -- The luminances, and two floats behind them.
-use borrow.Author.Rules.{rules}
 use Rattle.parts.proofs.together.params_at.Goals as goal
 
 pub returns : goal.returns

@@ -1,6 +1,5 @@
 -- `together::vec3_at` meets its contract.
 -- Three floats, one after the other.
-use borrow.Author.Rules.{rules}
 use Rattle.parts.proofs.together.vec3_at.Goals as goal
 
 pub returns : goal.returns
