@@ -2,7 +2,6 @@
 -- Either number that it compares with n is (m + 1)/2, by m's last digit.
 use Prim.Native.Nat.{◌+◌, ◌/◌}
 use native.Mathlib.Omega.{arith}
-use borrow.Author.Rules.{rules}
 use Rattle.half.proofs.Twice.{told-by}
 use Rattle.half.proofs.fits_twice.Goals as goal
 

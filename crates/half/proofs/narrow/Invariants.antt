@@ -1,17 +1,9 @@
 -- `narrow` makes each byte by the index rule where the lengths fit, and changes nothing where they do not.
 -- The test of the lengths decides; the loop argument is `Rewriting`'s, for the narrowed line.
-use Prim.Native.Nat.{◌+◌, ◌-◌, ◌/◌, ◌<◌}
-use mathlib.Core.Path.{◌≡◌, sym, ◌∙◌}
-use mathlib.Core.Bool.{true}
-use native.Mathlib.Omega.{arith}
-use borrow.Author.Rules.{rules}
-use borrow.Author.Tests.{not-false, not-true}
+use Prim.Native.Nat.{◌-◌}
 use lib.ListN.{length}
-use Rattle.notation.proofs.Rewriting.{Rewritten, begun, ended, write}
-use Rattle.half.specs.Narrowing.{narrowed, narrowed_at}
-use Rattle.half.specs.Twice.{fits_twice}
-use Rattle.half.proofs.Lines.{length-line, line_at}
-use Rattle.half.proofs.Twice.{halves_exactly}
+use Rattle.notation.proofs.Rewriting.{Rewritten}
+use Rattle.half.specs.Narrowing.{narrowed}
 use Rattle.half.proofs.narrow.Given as goal
 
 abbrev pub invariant-loop-i : goal.invariant-loop-i

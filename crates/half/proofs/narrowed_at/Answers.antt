@@ -1,6 +1,5 @@
 -- `narrowed_at` is `narrowed_at`.
 -- The test whether a pair stands there decides.
-use borrow.Author.Rules.{rules}
 use borrow.Author.Tests.{le-ltb, lt-ltb}
 use Rattle.half.proofs.narrowed_at.Goals as goal
 

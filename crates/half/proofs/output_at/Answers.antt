@@ -1,6 +1,5 @@
 -- `output_at` is `output_at`.
 -- The test whether there is such an output decides; then by the contracts of `beside` and `mix`.
-use borrow.Author.Rules.{rules}
 use borrow.Author.Tests.{le-ltb, lt-ltb}
 use Rattle.half.proofs.output_at.Goals as goal
 

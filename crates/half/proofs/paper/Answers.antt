@@ -1,6 +1,5 @@
 -- `paper` gives the papers' answer for each case.
 -- Each arm rewrites with the case that it took.
-use borrow.Author.Rules.{rules}
 use Rattle.half.proofs.paper.Goals as goal
 
 pub returns-in-Done : goal.returns-in-Done

@@ -1,18 +1,9 @@
 -- `widen` makes each byte by the index rule where the lengths fit, and changes nothing where they do not.
 -- The test of the lengths decides; the loop argument is `Rewriting`'s, for the widened line.
-use Prim.Native.Nat.{◌+◌, ◌-◌, ◌/◌, ◌<◌}
-use mathlib.Core.Path.{◌≡◌, sym, ◌∙◌}
-use mathlib.Core.Bool.{true}
-use native.Mathlib.Omega.{arith}
-use borrow.Author.Rules.{rules}
-use borrow.Author.Tests.{not-false, not-true}
+use Prim.Native.Nat.{◌-◌}
 use lib.ListN.{length}
-use Rattle.notation.proofs.Rewriting.{Rewritten, begun, ended, write}
-use Rattle.half.specs.Twice.{fits_twice}
-use Rattle.half.specs.Widening.{widened, widened_at}
-use Rattle.half.proofs.Lines.{length-line, line_at}
-use Rattle.half.proofs.Rules.{output_is}
-use Rattle.half.proofs.Twice.{halves_exactly}
+use Rattle.notation.proofs.Rewriting.{Rewritten}
+use Rattle.half.specs.Widening.{widened}
 use Rattle.half.proofs.widen.Given as goal
 
 abbrev pub invariant-loop-j : goal.invariant-loop-j
