@@ -2,7 +2,8 @@
 // fastest. Of each channel out, or of how far it moved modulo 256, its digest, and how many are 0 and 255.
 #![tactic(auto)]
 
-use libc::STDOUT_FILENO;
+use std::io;
+
 
 const MODULUS: u64 = 4294967291;
 
@@ -126,41 +127,36 @@ fn every(way: Way, firmware: u32) -> Tallies {
     t
 }
 
-fn print(name: &[u8], t: Tally) {
-    io::write_all(STDOUT_FILENO, name);
-    io::write_all(STDOUT_FILENO, b" ");
-    io::print_decimal(STDOUT_FILENO, t.digest);
-    io::write_all(STDOUT_FILENO, b" ");
-    io::print_decimal(STDOUT_FILENO, t.zeros);
-    io::write_all(STDOUT_FILENO, b" ");
-    io::print_decimal(STDOUT_FILENO, t.full);
-    io::write_all(STDOUT_FILENO, b"\n");
+fn print(rt: &impl Print, name: &str, t: Tally) -> io::Result<()> {
+    let digest = t.digest;
+    let zeros = t.zeros;
+    let full = t.full;
+    println!(rt; "{name} {digest} {zeros} {full}")
 }
 
-fn print_three(t: Tallies, a: &[u8], b: &[u8], c: &[u8]) {
+fn print_three(rt: &impl Print, t: Tallies, a: &str, b: &str, c: &str) -> io::Result<()> {
     let ta = t.a;
     let tb = t.b;
     let tc = t.c;
-    print(a, ta);
-    print(b, tb);
-    print(c, tc);
+    print(rt, a, ta)?;
+    print(rt, b, tb)?;
+    print(rt, c, tc)
 }
 
-fn print_all(firmware: u32) {
-    io::write_all(STDOUT_FILENO, b"firmware ");
-    io::print_decimal(STDOUT_FILENO, firmware as u64);
-    io::write_all(STDOUT_FILENO, b"\n");
-    print_three(every(Way::ToRgb, firmware), b"R", b"G", b"B");
-    print_three(every(Way::ToYcbcr, firmware), b"Cb", b"Y", b"Cr");
+fn print_all(rt: &impl Print, firmware: u32) -> io::Result<()> {
+    println!(rt; "firmware {firmware}")?;
+    print_three(rt, every(Way::ToRgb, firmware), "R", "G", "B")?;
+    print_three(rt, every(Way::ToYcbcr, firmware), "Cb", "Y", "Cr")?;
     print_three(
+        rt,
         every(Way::ThereAndBack, firmware),
-        b"R moved",
-        b"G moved",
-        b"B moved",
-    );
+        "R moved",
+        "G moved",
+        "B moved",
+    )
 }
 
-fn main() {
-    print_all(3);
-    print_all(4);
+fn main(rt: HostRuntime) -> io::Result<()> {
+    print_all(&rt, 3)?;
+    print_all(&rt, 4)
 }

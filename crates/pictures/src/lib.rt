@@ -1,10 +1,12 @@
 // What the programs for pictures share: how large a strip is, how it is read, what they say of a header, and where a picture ends.
 #![tactic(auto)]
 
-ghost use Rattle.std.specs.Prelude.{◌≡◌, ◌+◌, ◌≤◌, ◌<◌, length};
+ghost use Rattle.std.specs.Prelude.{◌≡◌, ◌+◌, ◌≤◌, ◌<◌, IfOk, length};
 
-use libc::STDIN_FILENO;
 use pfm::Stage;
+use std::io;
+use std::io::Read;
+use std::rt::Files;
 
 pub fn pixels_of(width: u32, height: u32) -> u64 {
     width as u64 * height as u64
@@ -36,11 +38,18 @@ pub fn strip_of(width: u32, left: u64) -> usize
     strip as usize
 }
 
-// Zeros, for the samples of a channel of a strip. Of these three the `ensures` gives only the length, which lending a part needs.
+// Zeros, for the samples of a channel of a strip. Of these four the `ensures` gives only the length, which lending a part needs.
 pub fn samples() -> [f32; 65536]
     ensures { 65536 ≡ length result }
 {
     [0.0; 65536]
+}
+
+// Zeros, for the bytes of a channel of a strip on a screen.
+pub fn channel_bytes() -> [u8; 65536]
+    ensures { 65536 ≡ length result }
+{
+    [0; 65536]
 }
 
 // Room for the bytes of a strip.
@@ -69,14 +78,36 @@ pub fn bytes_of(channels: u8, pixels: usize) -> usize
 }
 
 // Reads on until the input has so many bytes at its front, of which it holds some, or until there are no more; how many it then holds.
-pub fn filled(input: &mut [u8], held: usize, want: usize) -> usize
+pub fn filled(
+    rt: &impl Input,
+    input: &mut [u8],
+    held: usize,
+    want: usize,
+) -> io::Result<usize>
     requires { want ≤ length input.old }
-    ensures { result ≤ held + want }
+    ensures { IfOk result (λ n. n ≤ held + want) }
 {
     if want <= held {
-        return held;
+        return Ok(held);
     }
-    held + io::read_full(STDIN_FILENO, &mut input[held..want])
+    let came = read_full(rt, &mut input[held..want])?;
+    Ok(held + came)
+}
+
+// Reads until the room is full or the input ends; how many bytes came.
+fn read_full(rt: &impl Input, room: &mut [u8]) -> io::Result<usize>
+    ensures { IfOk result (λ n. n ≤ length room.new) }
+{
+    let mut input = rt.reader();
+    let mut done: usize = 0;
+    while done < room.len() {
+        let n = input.read(&mut room[done..])?;
+        if n == 0 {
+            break;
+        }
+        done += n;
+    }
+    Ok(done)
 }
 
 pub fn is_done(stage: Stage) -> bool {
@@ -86,23 +117,31 @@ pub fn is_done(stage: Stage) -> bool {
     }
 }
 
-pub fn header_refused(program: &[u8], stage: Stage) {
+pub fn header_refused(
+    rt: &(impl Eprint + Files),
+    program: &str,
+    stage: Stage,
+) -> io::Result<()> {
     match stage {
-        Stage::NotPfm => saying::refuse(program, b"this is no portable float map"),
+        Stage::NotPfm => saying::refuse(rt, program, "this is no portable float map"),
         Stage::BadSize => saying::refuse(
+            rt,
             program,
-            b"width and height are not two numbers from 1 to 2147483647",
+            "width and height are not two numbers from 1 to 2147483647",
         ),
-        Stage::BadScale => saying::refuse(program, b"the scale is no decimal number, or it is 0"),
-        _ => saying::refuse(program, b"the header of the picture does not end"),
+        Stage::BadScale => {
+            saying::refuse(rt, program, "the scale is no decimal number, or it is 0")
+        }
+        _ => saying::refuse(rt, program, "the header of the picture does not end"),
     }
 }
 
 // Whether nothing comes behind the picture; `extra` bytes were read already.
-pub fn at_end(extra: usize) -> bool {
+pub fn at_end(rt: &impl Input, extra: usize) -> io::Result<bool> {
     let mut more = [0u8; 1];
     if extra == 0 {
-        return io::read_full(STDIN_FILENO, &mut more) == 0;
+        let came = read_full(rt, &mut more)?;
+        return Ok(came == 0);
     }
-    false
+    Ok(false)
 }

@@ -1,7 +1,8 @@
 // A plan block from words: a few a line on standard input, the block on standard output.
 #![tactic(auto)]
 
-use libc::{STDERR_FILENO, STDIN_FILENO, STDOUT_FILENO};
+use std::io;
+use std::io::Read;
 
 // How long the word at the front is: 0 where the text or the line ends there, and at most 40.
 fn word_length(text: &[u8]) -> usize {
@@ -17,34 +18,32 @@ fn word_length(text: &[u8]) -> usize {
 }
 
 // Names the word that begins at a place, or says that one is missing there.
-fn name_fault(text: &[u8], place: usize) {
-    saying::begin(b"planmake");
-    io::write_all(STDERR_FILENO, b"line ");
-    io::print_decimal(STDERR_FILENO, wording::line_of(text, place));
-    io::write_all(STDERR_FILENO, b", word ");
-    io::print_decimal(STDERR_FILENO, wording::word_of(text, place));
-    name_word(text, place);
+fn name_fault(rt: &HostRuntime, text: &[u8], place: usize) -> io::Result<()> {
+    saying::begin(rt, "planmake")?;
+    let line = wording::line_of(text, place);
+    let word = wording::word_of(text, place);
+    eprint!(rt; "line {line}, word {word}")?;
+    name_word(rt, text, place)
 }
 
-fn name_word(text: &[u8], place: usize) {
+// The word's bytes stand as they came, which need not be text.
+fn name_word(rt: &HostRuntime, text: &[u8], place: usize) -> io::Result<()> {
     let from = saying::least(place, text.len());
     let behind = &text[from..];
     let n = word_length(behind);
     if n == 0 {
-        io::write_all(STDERR_FILENO, b" is missing\n");
-        return;
+        return eprintln!(rt; " is missing");
     }
-    io::write_all(STDERR_FILENO, b" is not understood: \"");
-    saying::write_part(STDERR_FILENO, behind, 0, n);
-    io::write_all(STDERR_FILENO, b"\"\n");
+    eprint!(rt; " is not understood: \"")?;
+    saying::write_part(&rt.stderr(), behind, 0, n)?;
+    eprintln!(rt; "\"")
 }
 
 // No block is longer than 1,192 bytes.
-fn make(text: &[u8]) {
+fn make(rt: &HostRuntime, text: &[u8]) -> io::Result<()> {
     let filling = wording::filled(text);
     if filling.fault {
-        name_fault(text, filling.place);
-        return;
+        return name_fault(rt, text, filling.place);
     }
     let mut block = [0u8; 1_192];
     let mut told = [0u64; 4];
@@ -59,20 +58,19 @@ fn make(text: &[u8]) {
         &mut told,
     );
     if number != 0 {
-        saying::refuse_by(b"planmake", number as u64, 0);
-        return;
+        return saying::refuse_by(rt, "planmake", number as u64, 0);
     }
-    if !saying::write_part(STDOUT_FILENO, &block, 0, told[1] as usize) {
-        saying::refuse(b"planmake", b"the block cannot be written");
+    if saying::write_part(rt, &block, 0, told[1] as usize).is_err() {
+        return saying::refuse(rt, "planmake", "the block cannot be written");
     }
+    Ok(())
 }
 
-fn main() {
-    let mut text = [0u8; 65_537];
-    let n = io::read_full(STDIN_FILENO, &mut text);
+fn main(rt: HostRuntime) -> io::Result<()> {
+    let mut text = Vec::new(rt.alloc());
+    let n = rt.reader().take(65_537).read_to_end(&mut text)?;
     if 65_536 < n {
-        saying::refuse(b"planmake", b"the words are more than 65,536 bytes");
-        return;
+        return saying::refuse(&rt, "planmake", "the words are more than 65,536 bytes");
     }
-    make(&text[..n]);
+    make(&rt, &text)
 }

@@ -1,8 +1,9 @@
 // A strip of a picture: bytes in, samples, the list run on them, bytes out.
 ghost use Rattle.std.specs.Prelude.{◌≤◌};
 
-use libc::{STDERR_FILENO, STDOUT_FILENO};
 use pfm::Numbers;
+use std::io;
+use std::io::IsTerminal;
 use strips::State;
 
 // The run after a strip, and whether the strip was written.
@@ -21,6 +22,7 @@ fn put(end: u8, little: bool, a: &[f32], b: &[f32], c: &[f32], out: &mut [u8]) -
 
 // The samples of these bytes, the list run on them, and their bytes to standard output by way of the room for them.
 fn on_samples(
+    rt: &HostRuntime,
     state: State,
     end: u8,
     numbers: Numbers,
@@ -33,7 +35,7 @@ fn on_samples(
     pfm::channels_from(numbers.channels, bytes, numbers.little, a, b, c);
     let next = strips::strip(state, a, b, c).state;
     put(end, numbers.little, a, b, c, out);
-    let written = io::write_all(STDOUT_FILENO, out);
+    let written = rt.write_all(out).is_ok();
     Stripped {
         state: next,
         written,
@@ -41,7 +43,14 @@ fn on_samples(
 }
 
 // So many pixels.
-pub(crate) fn strip(state: State, end: u8, numbers: Numbers, n: usize, bytes: &[u8]) -> Stripped
+pub(crate) fn strip(
+    rt: &HostRuntime,
+    state: State,
+    end: u8,
+    numbers: Numbers,
+    n: usize,
+    bytes: &[u8],
+) -> Stripped
     requires { n ≤ 65536 }
 {
     let mut a = pictures::samples();
@@ -50,6 +59,7 @@ pub(crate) fn strip(state: State, end: u8, numbers: Numbers, n: usize, bytes: &[
     let mut out = pictures::strip_bytes();
     let size = pictures::bytes_of(end, n);
     on_samples(
+        rt,
         state,
         end,
         numbers,
@@ -62,34 +72,34 @@ pub(crate) fn strip(state: State, end: u8, numbers: Numbers, n: usize, bytes: &[
 }
 
 // The header that came, with the letter for the width that the run ends at.
-pub(crate) fn put_header(end: u8, header: &[u8], used: usize) -> bool {
+pub(crate) fn put_header(
+    rt: &HostRuntime,
+    end: u8,
+    header: &[u8],
+    used: usize,
+) -> io::Result<()> {
     let mark = if end == 3 { b'F' } else { b'f' };
-    if !io::write_all(STDOUT_FILENO, &[b'P', mark]) {
-        return false;
-    }
-    saying::write_part(STDOUT_FILENO, header, 2, used)
+    rt.write_all(&[b'P', mark])?;
+    saying::write_part(rt, header, 2, used)
 }
 
 // How far it is, where standard error is a terminal and the picture is large; what is said next stands over it.
-pub(crate) fn show_progress(left: u64, all: u64) {
+pub(crate) fn show_progress(rt: &HostRuntime, left: u64, all: u64) -> io::Result<()> {
     if (left == 0) | (all < 4_194_304) {
-        return;
+        return Ok(());
     }
-    if libc::isatty(STDERR_FILENO) != 1 {
-        return;
+    if !rt.stderr().is_terminal() {
+        return Ok(());
     }
-    io::write_all(STDERR_FILENO, b"planrun: ");
-    io::print_decimal(STDERR_FILENO, left / (all / 100 + 1));
-    io::write_all(STDERR_FILENO, b" % left \r");
+    let percent = left / (all / 100 + 1);
+    eprint!(rt; "planrun: {percent} % left \r")
 }
 
 // The width that the run ended at, and how many samples went bad.
-pub(crate) fn report(state: State) {
+pub(crate) fn report(rt: &HostRuntime, state: State) -> io::Result<()> {
     let closed = strips::close(state);
     let answer = closed.answer;
-    io::write_all(STDERR_FILENO, b"planrun: width ");
-    io::print_decimal(STDERR_FILENO, strips::paper(answer).width as u64);
-    io::write_all(STDERR_FILENO, b", bad samples ");
-    io::print_decimal(STDERR_FILENO, closed.bad);
-    io::write_all(STDERR_FILENO, b"\n");
+    let width = strips::paper(answer).width;
+    let bad = closed.bad;
+    eprintln!(rt; "planrun: width {width}, bad samples {bad}")
 }

@@ -4,10 +4,14 @@
 mod shown;
 mod turned;
 
-ghost use Rattle.std.specs.Prelude.{◌≡◌, ◌+◌, ◌≤◌, ◌<◌, length};
+ghost use Rattle.std.specs.Prelude.{◌≡◌, ◌+◌, ◌≤◌, ◌<◌, IfOk, length};
 
-use libc::STDOUT_FILENO;
 use pfm::Numbers;
+use std::fs;
+use std::fs::File;
+use std::io;
+use std::io::ErrorKind;
+use std::process;
 
 // How far the picture is: how many bytes the input holds at its front, how many pixels are left, and that nothing was refused.
 #[derive(Clone, Copy)]
@@ -17,52 +21,64 @@ struct Progress {
     fine: bool,
 }
 
-fn refused(words: &[u8]) -> Progress
-    ensures { result.left ≡ 0 }
+fn refused(rt: &HostRuntime, words: &str) -> io::Result<Progress>
+    ensures { IfOk result (λ p. p.left ≡ 0) }
 {
-    saying::refuse(b"planshow", words);
-    Progress {
+    saying::refuse(rt, "planshow", words)?;
+    Ok(Progress {
         held: 0,
         left: 0,
         fine: false,
-    }
+    })
 }
 
 // The next strip.
-fn next(p: Progress, numbers: Numbers, file: i32, input: &mut [u8]) -> Progress
+fn next(
+    rt: &HostRuntime,
+    p: Progress,
+    numbers: Numbers,
+    file: &mut File,
+    input: &mut [u8],
+) -> io::Result<Progress>
     requires { (0 < p.left) × (786432 ≤ length input.old) }
-    ensures { result.left < p.left }
+    ensures { IfOk result (λ q. q.left < p.left) }
 {
     let n = pictures::strip_of(numbers.width, p.left);
     let want = pictures::bytes_of(numbers.channels, n);
-    let held = pictures::filled(input, p.held, want);
+    let held = pictures::filled(rt, input, p.held, want)?;
     if held < want {
-        return refused(b"the picture ends early");
+        return refused(rt, "the picture ends early");
     }
-    if !shown::strip(numbers, n, &input[..want], file) {
-        return refused(b"there is no room for the picture in /tmp");
+    if shown::strip(numbers, n, &input[..want], file).is_err() {
+        return refused(rt, "there is no room for the picture in /tmp");
     }
     let left = p.left - n as u64;
-    Progress {
+    Ok(Progress {
         held: held - want,
         left,
         fine: true,
-    }
+    })
 }
 
-fn whole(p: Progress) -> bool {
+fn whole(rt: &HostRuntime, p: Progress) -> io::Result<bool> {
     if !p.fine {
-        return false;
+        return Ok(false);
     }
-    if pictures::at_end(p.held) {
-        return true;
+    if pictures::at_end(rt, p.held)? {
+        return Ok(true);
     }
-    saying::refuse(b"planshow", b"bytes stand behind the picture");
-    false
+    saying::refuse(rt, "planshow", "bytes stand behind the picture")?;
+    Ok(false)
 }
 
 // Strip by strip into a file; whether the picture was whole. The input holds so many bytes of it at its front.
-fn filed(numbers: Numbers, file: i32, input: &mut [u8], held: usize) -> bool
+fn filed(
+    rt: &HostRuntime,
+    numbers: Numbers,
+    file: &mut File,
+    input: &mut [u8],
+    held: usize,
+) -> io::Result<bool>
     requires { 786432 ≤ length input.old }
 {
     let all = pictures::pixels_of(numbers.width, numbers.height);
@@ -72,73 +88,81 @@ fn filed(numbers: Numbers, file: i32, input: &mut [u8], held: usize) -> bool
         fine: true,
     };
     while 0 < p.left {
-        p = next(p, numbers, file, input);
+        p = next(rt, p, numbers, file, input)?;
     }
-    whole(p)
+    whole(rt, p)
 }
 
-// A file of no name, for the time that the program runs; -1 where there is none.
-fn a_file() -> i32 {
-    let mut name = *b"/tmp/planshow-XXXXXX";
-    let file = os::create_temp(&mut name);
-    if 0 <= file {
-        os::unlink(&name);
+// A file of no name, for the time that the program runs. Its name is this process's, and a number that no file has yet.
+fn a_file(rt: &HostRuntime) -> io::Result<File> {
+    let id = process::id(rt.process());
+    for n in 0..u8::MAX {
+        let name = format!(in rt.alloc(); "/tmp/planshow-{id}-{n}")?;
+        match File::create_new(rt, &name) {
+            Ok(file) => {
+                fs::remove_file(rt, &name)?;
+                return Ok(file);
+            }
+            Err(error) => {
+                if error.kind() != ErrorKind::AlreadyExists {
+                    return Err(error);
+                }
+            }
+        }
     }
-    file
+    Err(io::Error::from(ErrorKind::AlreadyExists))
 }
 
 // The size stands as it came, between the mark and the largest byte.
-fn put_header(numbers: Numbers, input: &[u8]) -> bool {
-    if !io::write_all(STDOUT_FILENO, b"P6") {
-        return false;
-    }
-    if !saying::write_part(STDOUT_FILENO, input, 2, numbers.sized) {
-        return false;
-    }
-    io::write_all(STDOUT_FILENO, b"255\n")
+fn put_header(rt: &HostRuntime, numbers: Numbers, input: &[u8]) -> io::Result<()> {
+    rt.write_all(b"P6")?;
+    saying::write_part(rt, input, 2, numbers.sized)?;
+    rt.write_all(b"255\n")
 }
 
-fn put(numbers: Numbers, input: &[u8], file: i32) -> bool {
-    if !put_header(numbers, input) {
-        return false;
-    }
-    turned::put_lines(numbers.width, numbers.height, file)
+fn put(rt: &HostRuntime, numbers: Numbers, input: &[u8], file: &mut File) -> io::Result<()> {
+    put_header(rt, numbers, input)?;
+    turned::put_lines(rt, numbers.width, numbers.height, file)
 }
 
 // Nothing is written before the picture was read to its end.
-fn show(numbers: Numbers, file: i32, input: &mut [u8], held: usize)
+fn show(
+    rt: &HostRuntime,
+    numbers: Numbers,
+    file: &mut File,
+    input: &mut [u8],
+    held: usize,
+) -> io::Result<()>
     requires { 786432 + held ≤ length input.old }
 {
     let from = saying::least(numbers.used, held);
-    if !filed(numbers, file, &mut input[from..], held - from) {
-        return;
+    if !filed(rt, numbers, file, &mut input[from..], held - from)? {
+        return Ok(());
     }
-    if !put(numbers, input, file) {
-        saying::refuse(b"planshow", b"the picture cannot be written");
+    if put(rt, numbers, input, file).is_err() {
+        return saying::refuse(rt, "planshow", "the picture cannot be written");
     }
+    Ok(())
 }
 
 // The picture at the front of the input, which holds so many bytes.
-fn show_picture(input: &mut [u8], held: usize)
+fn show_picture(rt: &HostRuntime, input: &mut [u8], held: usize) -> io::Result<()>
     requires { 786432 + held ≤ length input.old }
 {
     let header = pfm::read(&input[..held]);
     let stage = header.stage;
     if !pictures::is_done(stage) {
-        pictures::header_refused(b"planshow", stage);
-        return;
-    }
-    let file = a_file();
-    if file < 0 {
-        saying::refuse(b"planshow", b"no file can be made in /tmp");
-        return;
+        return pictures::header_refused(rt, "planshow", stage);
     }
     let numbers = header.numbers;
-    show(numbers, file, input, held);
+    match a_file(rt) {
+        Ok(mut file) => show(rt, numbers, &mut file, input, held),
+        Err(_) => saying::refuse(rt, "planshow", "no file can be made in /tmp"),
+    }
 }
 
-fn main() {
+fn main(rt: HostRuntime) -> io::Result<()> {
     let mut input = pictures::room();
-    let held = pictures::filled(&mut input, 0, 4_096);
-    show_picture(&mut input, held);
+    let held = pictures::filled(&rt, &mut input, 0, 4_096)?;
+    show_picture(&rt, &mut input, held)
 }

@@ -2,6 +2,9 @@
 ghost use Rattle.std.specs.Prelude.{◌≤◌};
 
 use pfm::Numbers;
+use std::fs::File;
+use std::io;
+use std::io::Write;
 
 // The screen bytes of three channels, and the pixels of these into a file, by way of the rooms for them.
 fn put_pixels(
@@ -12,21 +15,21 @@ fn put_pixels(
     green: &mut [u8],
     blue: &mut [u8],
     out: &mut [u8],
-    file: i32,
-) -> bool {
+    file: &mut File,
+) -> io::Result<()> {
     screen::screen_bytes(a, red);
     screen::screen_bytes(b, green);
     screen::screen_bytes(c, blue);
     pfm::pixels_to(red, green, blue, out);
-    io::write_all(file, out)
+    file.write_all(out)
 }
 
-fn put_screen(n: usize, a: &[f32], b: &[f32], c: &[f32], file: i32) -> bool
+fn put_screen(n: usize, a: &[f32], b: &[f32], c: &[f32], file: &mut File) -> io::Result<()>
     requires { n ≤ 65536 }
 {
-    let mut red = io::large_buffer();
-    let mut green = io::large_buffer();
-    let mut blue = io::large_buffer();
+    let mut red = pictures::channel_bytes();
+    let mut green = pictures::channel_bytes();
+    let mut blue = pictures::channel_bytes();
     let mut out = pictures::strip_bytes();
     put_pixels(
         a,
@@ -48,8 +51,8 @@ fn put_samples(
     a: &mut [f32],
     b: &mut [f32],
     c: &mut [f32],
-    file: i32,
-) -> bool
+    file: &mut File,
+) -> io::Result<()>
     requires { n ≤ 65536 }
 {
     pfm::channels_from(numbers.channels, bytes, numbers.little, a, b, c);
@@ -59,8 +62,8 @@ fn put_samples(
     put_screen(n, a, a, a, file)
 }
 
-// So many pixels; whether they are in the file.
-pub(crate) fn strip(numbers: Numbers, n: usize, bytes: &[u8], file: i32) -> bool
+// So many pixels, into the file.
+pub(crate) fn strip(numbers: Numbers, n: usize, bytes: &[u8], file: &mut File) -> io::Result<()>
     requires { n ≤ 65536 }
 {
     let mut a = pictures::samples();

@@ -1,27 +1,27 @@
 // The lines of a file from the last to the first: a float map's first line is the lowest, a pixmap's the highest.
 ghost use Rattle.std.specs.Prelude.{◌+◌, ◌≤◌, ◌<◌};
 
-use libc::STDOUT_FILENO;
+use std::fs::File;
+use std::io;
+use std::io::{ErrorKind, Read, Seek, SeekFrom};
 
 // No file has more pixels: an offset is below 2^63.
 const MOST: u64 = 3_074_457_345_618_258_602;
 
 // This part of a file, from this place on, by way of the room for it.
-fn copied(file: i32, at: u64, part: &mut [u8]) -> bool
+fn copied(rt: &HostRuntime, file: &mut File, at: u64, part: &mut [u8]) -> io::Result<()>
     requires { at ≤ 9223372036854775807 }
 {
-    let got = libc::pread(file, part, at as i64);
-    if io::count(got, part) < part.len() {
-        return false;
-    }
-    io::write_all(STDOUT_FILENO, part)
+    file.seek(SeekFrom::Start(at))?;
+    file.read_exact(part)?;
+    rt.write_all(part)
 }
 
-fn put_piece(file: i32, at: u64, n: usize) -> bool
+fn put_piece(rt: &HostRuntime, file: &mut File, at: u64, n: usize) -> io::Result<()>
     requires { (n ≤ 65536) × (at ≤ 9223372036854775807) }
 {
-    let mut piece = io::large_buffer();
-    copied(file, at, &mut piece[..n])
+    let mut piece = pictures::channel_bytes();
+    copied(rt, file, at, &mut piece[..n])
 }
 
 fn piece_of(left: u64) -> usize
@@ -35,39 +35,40 @@ fn piece_of(left: u64) -> usize
 }
 
 // So many bytes of a file from a place on, piece by piece.
-fn put_part(file: i32, from: u64, count: u64) -> bool
+fn put_part(rt: &HostRuntime, file: &mut File, from: u64, count: u64) -> io::Result<()>
     requires { from + count ≤ 9223372036854775807 }
 {
     let mut at = from;
     let mut left = count;
     while 0 < left {
         let n = piece_of(left);
-        if !put_piece(file, at, n) {
-            return false;
-        }
+        put_piece(rt, file, at, n)?;
         at += n as u64;
         left -= n as u64;
     }
-    true
+    Ok(())
 }
 
-pub(crate) fn put_lines(width: u32, height: u32, file: i32) -> bool {
+pub(crate) fn put_lines(
+    rt: &HostRuntime,
+    width: u32,
+    height: u32,
+    file: &mut File,
+) -> io::Result<()> {
     let all = pictures::pixels_of(width, height);
     if MOST < all {
-        return false;
+        return Err(io::Error::from(ErrorKind::FileTooLarge));
     }
     let line = 3 * (width as u64);
     let mut at = 3 * all;
     let mut left = height;
     while 0 < left {
         if at < line {
-            return false;
+            return Err(io::Error::from(ErrorKind::UnexpectedEof));
         }
         at -= line;
         left -= 1;
-        if !put_part(file, at, line) {
-            return false;
-        }
+        put_part(rt, file, at, line)?;
     }
-    true
+    Ok(())
 }

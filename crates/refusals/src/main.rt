@@ -3,10 +3,10 @@
 
 use ciexyz::{Millionths, Primaries, Vec3, WhitePoint};
 use encoding::{ColourEncoding, ColourSpace, EnumColourEncoding, RenderingIntent, Settings};
-use libc::STDOUT_FILENO;
 use list::Plan;
 use notation::Answer;
 use op::{Curve, HdrParams, Luminances, Op};
+use std::io;
 
 // None of them matters here.
 fn settings() -> Settings {
@@ -34,77 +34,79 @@ fn side(colour_space: ColourSpace, white_point: WhitePoint, tf: Curve) -> Colour
     })
 }
 
-fn show(given: &[u8], answer: Answer) {
-    io::write_all(STDOUT_FILENO, given);
-    if answer.number == 0 {
-        io::write_all(STDOUT_FILENO, b": done\n");
-        return;
+fn show(rt: &impl Print, given: &str, answer: Answer) -> io::Result<()> {
+    let number = answer.number;
+    if number == 0 {
+        return println!(rt; "{given}: done");
     }
-    io::write_all(STDOUT_FILENO, b": refused ");
-    io::print_decimal(STDOUT_FILENO, answer.number as u64);
-    if answer.number == 5 || answer.number == 6 {
-        io::write_all(STDOUT_FILENO, b" at ");
-        io::print_decimal(STDOUT_FILENO, answer.position as u64);
+    if number == 5 || number == 6 {
+        let position = answer.position;
+        return println!(rt; "{given}: refused {number} at {position}");
     }
-    io::write_all(STDOUT_FILENO, b"\n");
+    println!(rt; "{given}: refused {number}")
 }
 
-fn show_plan(given: &[u8], source: ColourEncoding, target: ColourEncoding) {
+fn show_plan(rt: &impl Print, given: &str, source: ColourEncoding, target: ColourEncoding) -> io::Result<()> {
     let planned = planner::plan(source, target, settings());
     let reached = planned.answer;
-    show(given, planner::paper(reached));
+    show(rt, given, planner::paper(reached))
 }
 
 // 1, 2, 15 and 3.
-fn plans() {
+fn plans(rt: &impl Print) -> io::Result<()> {
     let rgb = side(ColourSpace::Rgb, WhitePoint::D65, Curve::Linear);
     show_plan(
-        b"a plan from an ICC profile",
+        rt,
+        "a plan from an ICC profile",
         ColourEncoding::IccProfile,
         rgb,
-    );
+    )?;
     let nowhere = WhitePoint::Custom(Millionths {
         x: 9_000_000,
         y: 329_000,
     });
     show_plan(
-        b"a plan from a white point at x = 9",
+        rt,
+        "a plan from a white point at x = 9",
         side(ColourSpace::Rgb, nowhere, Curve::Linear),
         rgb,
-    );
+    )?;
     show_plan(
-        b"a plan to the Unknown curve",
+        rt,
+        "a plan to the Unknown curve",
         rgb,
         side(ColourSpace::Rgb, WhitePoint::D65, Curve::Unknown),
-    );
+    )?;
     show_plan(
-        b"a plan from an unknown colour space",
+        rt,
+        "a plan from an unknown colour space",
         side(ColourSpace::Unknown, WhitePoint::D65, Curve::Linear),
         rgb,
-    );
+    )
 }
 
 // Runs the list on three channels, the last of them of these samples.
-fn show_run(given: &[u8], plan: Plan, c: &mut [f32]) {
+fn show_run(rt: &impl Print, given: &str, plan: Plan, c: &mut [f32]) -> io::Result<()> {
     let mut a: [f32; 3] = [0.5, 0.5, 0.5];
     let mut b: [f32; 3] = [0.5, 0.5, 0.5];
     let ran = run::run(plan, &mut a, &mut b, c);
     let outcome = ran.outcome;
-    show(given, run::paper(outcome));
+    show(rt, given, run::paper(outcome))
 }
 
 // 4, 5 and 6.
-fn runs() {
+fn runs(rt: &impl Print) -> io::Result<()> {
     let mut two: [f32; 2] = [0.5, 0.5];
     let mut three: [f32; 3] = [0.5, 0.5, 0.5];
     let clip = list::push(list::empty(3), Op::Clip);
-    show_run(b"a run on three, three and two samples", clip, &mut two);
+    show_run(rt, "a run on three, three and two samples", clip, &mut two)?;
     let luma = list::push(list::empty(3), Op::XyzToLuma);
     show_run(
-        b"a run of XyzToLuma and again of XyzToLuma, which needs three channels",
+        rt,
+        "a run of XyzToLuma and again of XyzToLuma, which needs three channels",
         list::push(luma, Op::XyzToLuma),
         &mut three,
-    );
+    )?;
     let planned = planner::plan(
         side(ColourSpace::Rgb, WhitePoint::D65, Curve::Linear),
         side(ColourSpace::Rgb, WhitePoint::D65, Curve::Srgb),
@@ -112,80 +114,89 @@ fn runs() {
     );
     let plan = planned.plan;
     show_run(
-        b"a run of a plan to sRGB, whose curve is not carried",
+        rt,
+        "a run of a plan to sRGB, whose curve is not carried",
         plan,
         &mut three,
-    );
+    )
 }
 
 // 10: the list ends with one channel, and says three.
-fn handed() {
+fn handed(rt: &impl Print) -> io::Result<()> {
     let mut three: [f32; 3] = [0.5, 0.5, 0.5];
     let mut stale = list::push(list::empty(3), Op::XyzToLuma);
     stale.end = 3;
     show_run(
-        b"a run of XyzToLuma in a list that says it ends with three channels",
+        rt,
+        "a run of XyzToLuma in a list that says it ends with three channels",
         stale,
         &mut three,
-    );
+    )
 }
 
-fn show_block(given: &[u8], bytes: &[u8]) {
+fn show_block(rt: &impl Print, given: &str, bytes: &[u8]) -> io::Result<()> {
     let read = block::read(bytes);
     let reached = read.answer;
-    show(given, block::paper(reached));
+    show(rt, given, block::paper(reached))
 }
 
 // 7, 8, 9 and 10.
-fn blocks() {
+fn blocks(rt: &impl Print) -> io::Result<()> {
     show_block(
-        b"a block whose last op is cut off",
+        rt,
+        "a block whose last op is cut off",
         &[0x43, 0x54, 0x50, 1, 0, 1, 2, 9],
-    );
+    )?;
     show_block(
-        b"a block of version 2 without its end width",
+        rt,
+        "a block of version 2 without its end width",
         &[0x43, 0x54, 0x50, 2, 0, 1, 0],
-    );
+    )?;
     show_block(
-        b"a block of version 3",
+        rt,
+        "a block of version 3",
         &[0x43, 0x54, 0x50, 3, 0, 1, 1, 1, 9],
-    );
+    )?;
     show_block(
-        b"a block with an op of kind 10",
+        rt,
+        "a block with an op of kind 10",
         &[0x43, 0x54, 0x50, 1, 0, 1, 1, 10],
-    );
+    )?;
     show_block(
-        b"a block of version 2 with Clip at width 1 and the end width 3",
+        rt,
+        "a block of version 2 with Clip at width 1 and the end width 3",
         &[0x43, 0x54, 0x50, 2, 0, 1, 1, 3, 9],
-    );
+    )?;
     show_block(
-        b"a block of start width 2",
+        rt,
+        "a block of start width 2",
         &[0x43, 0x54, 0x50, 1, 0, 2, 1, 9],
-    );
+    )
 }
 
 // 11.
-fn strips() {
+fn strips(rt: &impl Print) -> io::Result<()> {
     let mut a: [f32; 1] = [0.5];
     let mut b: [f32; 1] = [0.5];
     let mut c: [f32; 1] = [0.5];
     let given = strips::strip(strips::closed(), &mut a, &mut b, &mut c);
     let stripped = given.answer;
-    show(b"a strip without an open run", strips::paper(stripped));
+    show(rt, "a strip without an open run", strips::paper(stripped))
 }
 
-fn show_writing(given: &[u8], plan: Plan, version: u16) {
+fn show_writing(rt: &impl Print, given: &str, plan: Plan, version: u16) -> io::Result<()> {
     let mut seven = [0u8; 7];
     show(
+        rt,
         given,
         writer::paper(writer::write(plan, version, &mut seven)),
-    );
+    )
 }
 
 // 8, 15 and 12.
-fn writings() {
+fn writings(rt: &impl Print) -> io::Result<()> {
     let clip = list::push(list::empty(1), Op::Clip);
-    show_writing(b"a list written in version 3", clip, 3);
+    show_writing(rt, "a list written in version 3", clip, 3)?;
     let unknown = Op::TransferFunction {
         curve: Curve::Unknown,
         hdr_params: HdrParams {
@@ -200,50 +211,55 @@ fn writings() {
         inverse: false,
     };
     show_writing(
-        b"a list with the Unknown curve, written into seven bytes",
+        rt,
+        "a list with the Unknown curve, written into seven bytes",
         list::push(list::empty(1), unknown),
         1,
-    );
+    )?;
     show_writing(
-        b"a list of one op, whose block of version 1 has eight bytes, written into seven",
+        rt,
+        "a list of one op, whose block of version 1 has eight bytes, written into seven",
         clip,
         1,
-    );
+    )
 }
 
 // 13.
-fn conversions() {
+fn conversions(rt: &impl Print) -> io::Result<()> {
     let mut cb: [f32; 1] = [0.0];
     let mut y: [f32; 1] = [0.5];
     let mut cr: [f32; 1] = [0.0];
     show(
-        b"a conversion for firmware 5",
+        rt,
+        "a conversion for firmware 5",
         firmware::paper(ycbcr::ycbcr_to_rgb(5, &mut cb, &mut y, &mut cr)),
-    );
+    )
 }
 
 // 4 again.
-fn lines() {
+fn lines(rt: &impl Print) -> io::Result<()> {
     let mut out = [0u8; 8];
     show(
-        b"five chroma bytes widened to eight",
+        rt,
+        "five chroma bytes widened to eight",
         half::paper(half::widen(&[90, 100, 110, 120, 130], &mut out)),
-    );
+    )
 }
 
 // 14.
-fn codes() {
+fn codes(rt: &impl Print) -> io::Result<()> {
     let mut levels: [f32; 2] = [0.0, 0.0];
     show(
-        b"the codes 1023 and 1024, of which the last is none",
+        rt,
+        "the codes 1023 and 1024, of which the last is none",
         srgb10_levels::paper(srgb10_levels::code_levels(&[1023, 1024], &mut levels)),
-    );
+    )
 }
 
-fn show_join(given: &[u8], first: Plan, second: Plan) {
+fn show_join(rt: &impl Print, given: &str, first: Plan, second: Plan) -> io::Result<()> {
     let joined = join::join(first, second);
     let answer = joined.answer;
-    show(given, list::paper(answer));
+    show(rt, given, list::paper(answer))
 }
 
 fn doubled(plan: Plan) -> Plan {
@@ -252,39 +268,42 @@ fn doubled(plan: Plan) -> Plan {
 }
 
 // 10 and 5, in the first list, between the two, and in the second.
-fn joins() {
+fn joins(rt: &impl Print) -> io::Result<()> {
     let clip = list::push(list::empty(3), Op::Clip);
     let clips = doubled(clip);
     let luma = list::push(clips, Op::XyzToLuma);
     let again = list::push(luma, Op::XyzToLuma);
     let all = doubled(doubled(doubled(doubled(clips))));
-    show_join(b"a list of 32 ops joined to one of a single op", all, clip);
+    show_join(rt, "a list of 32 ops joined to one of a single op", all, clip)?;
     show_join(
-        b"two Clips, XyzToLuma and again XyzToLuma joined to a Clip",
+        rt,
+        "two Clips, XyzToLuma and again XyzToLuma joined to a Clip",
         again,
         clip,
-    );
+    )?;
     show_join(
-        b"two Clips and XyzToLuma joined to a list that starts with three channels",
+        rt,
+        "two Clips and XyzToLuma joined to a list that starts with three channels",
         luma,
         clip,
-    );
+    )?;
     show_join(
-        b"two Clips joined to two Clips, XyzToLuma and again XyzToLuma",
+        rt,
+        "two Clips joined to two Clips, XyzToLuma and again XyzToLuma",
         clips,
         again,
-    );
+    )
 }
 
-fn main() {
-    plans();
-    runs();
-    handed();
-    joins();
-    blocks();
-    strips();
-    writings();
-    conversions();
-    lines();
-    codes();
+fn main(rt: HostRuntime) -> io::Result<()> {
+    plans(&rt)?;
+    runs(&rt)?;
+    handed(&rt)?;
+    joins(&rt)?;
+    blocks(&rt)?;
+    strips(&rt)?;
+    writings(&rt)?;
+    conversions(&rt)?;
+    lines(&rt)?;
+    codes(&rt)
 }

@@ -3,7 +3,7 @@
 
 ghost use Rattle.std.specs.Prelude.{◌<◌};
 
-use libc::STDOUT_FILENO;
+use std::io;
 
 const KINDS: usize = 32;
 
@@ -26,48 +26,43 @@ fn kind_of(line: &[u8]) -> usize
     0
 }
 
-fn show(number: u64, line: &[u8]) {
-    io::write_all(STDOUT_FILENO, b"first at line ");
-    io::print_decimal(STDOUT_FILENO, number);
-    io::write_all(STDOUT_FILENO, b": ");
-    io::write_all(STDOUT_FILENO, line);
-    io::write_all(STDOUT_FILENO, b"\n");
+fn show(rt: &impl Print, number: u64, line: &[u8]) -> io::Result<()> {
+    print!(rt; "first at line {number}: ")?;
+    rt.write_all(line)?;
+    rt.println("")
 }
 
-fn counted(tally: Tally, line: &[u8]) -> Tally {
+fn counted(rt: &impl Print, tally: Tally, line: &[u8]) -> io::Result<Tally> {
     let kind = kind_of(line);
     let mut next = tally;
     next.lines = std::num::wrapping_add_u64(tally.lines, 1);
     next.ran[kind] = std::num::wrapping_add_u64(tally.ran[kind], 1);
     if recorded::same(line) {
-        return next;
+        return Ok(next);
     }
     next.differ[kind] = std::num::wrapping_add_u64(tally.differ[kind], 1);
     if tally.all_same {
-        show(next.lines, line);
+        show(rt, next.lines, line)?;
     }
     next.all_same = false;
-    next
+    Ok(next)
 }
 
-fn report(tally: Tally) {
+fn report(rt: &impl Print, tally: Tally) -> io::Result<()> {
     let mut kind: usize = 0;
     while kind < KINDS {
-        if tally.ran[kind] > 0 {
-            io::write_all(STDOUT_FILENO, b"kind ");
-            io::print_decimal(STDOUT_FILENO, kind as u64);
-            io::write_all(STDOUT_FILENO, b": ");
-            io::print_decimal(STDOUT_FILENO, tally.ran[kind]);
-            io::write_all(STDOUT_FILENO, b" ran, ");
-            io::print_decimal(STDOUT_FILENO, tally.differ[kind]);
-            io::write_all(STDOUT_FILENO, b" differ\n");
+        let ran = tally.ran[kind];
+        if ran > 0 {
+            let differ = tally.differ[kind];
+            println!(rt; "kind {kind}: {ran} ran, {differ} differ")?;
         }
         kind += 1;
     }
+    Ok(())
 }
 
-fn main() {
-    let mut buf = io::large_buffer();
+fn main(rt: HostRuntime) -> io::Result<()> {
+    let mut buf = [0u8; 65_536];
     let mut p = lines::begun();
     let mut tally = Tally {
         ran: [0; KINDS],
@@ -76,10 +71,10 @@ fn main() {
         all_same: true,
     };
     while 0 < p.turns {
-        p = lines::next(&mut buf, p);
+        p = lines::next(&rt, &mut buf, p);
         if p.has_line {
-            tally = counted(tally, lines::line(&buf, p));
+            tally = counted(&rt, tally, lines::line(&buf, p))?;
         }
     }
-    report(tally);
+    report(&rt, tally)
 }

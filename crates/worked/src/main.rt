@@ -3,9 +3,9 @@
 
 use ciexyz::{Mat3, Millionths, Primaries, Vec3, WhitePoint};
 use encoding::{ColourEncoding, ColourSpace, EnumColourEncoding, RenderingIntent, Settings};
-use libc::STDOUT_FILENO;
 use list::Plan;
 use op::Curve;
+use std::io;
 
 // The inverse opsin matrix and the bias that JPEG XL has where a picture names none.
 const OPSIN: Mat3 = Mat3 {
@@ -47,40 +47,35 @@ fn side(colour_space: ColourSpace, white_point: WhitePoint, tf: Curve) -> Colour
     })
 }
 
-fn print_plan(title: &[u8], plan: Plan) {
+fn print_plan(rt: &impl Print, title: &str, plan: Plan) -> io::Result<()> {
     let mut text = [0u8; 1024];
     let size = listing::list_plan(plan, &mut text);
-    io::write_all(STDOUT_FILENO, title);
-    io::write_all(STDOUT_FILENO, &text[..size]);
+    rt.print(title)?;
+    rt.write_all(&text[..size])
 }
 
 // The list line by line, and the end width that it carries.
-fn show_plan(title: &[u8], plan: Plan) {
-    print_plan(title, plan);
-    io::write_all(STDOUT_FILENO, b"end width carried: ");
-    io::print_decimal(STDOUT_FILENO, plan.end as u64);
-    io::write_all(STDOUT_FILENO, b"\n");
+fn show_plan(rt: &impl Print, title: &str, plan: Plan) -> io::Result<()> {
+    print_plan(rt, title, plan)?;
+    let end = plan.end;
+    println!(rt; "end width carried: {end}")
 }
 
-fn print_bytes(red: u8, green: u8, blue: u8) {
-    io::print_decimal(STDOUT_FILENO, red as u64);
-    io::write_all(STDOUT_FILENO, b" ");
-    io::print_decimal(STDOUT_FILENO, green as u64);
-    io::write_all(STDOUT_FILENO, b" ");
-    io::print_decimal(STDOUT_FILENO, blue as u64);
-    io::write_all(STDOUT_FILENO, b"\n");
+fn print_bytes(rt: &impl Print, red: u8, green: u8, blue: u8) -> io::Result<()> {
+    println!(rt; "{red} {green} {blue}")
 }
 
 // A sample of each channel as bytes for a screen.
-fn print_sample(red: f32, green: f32, blue: f32) {
+fn print_sample(rt: &impl Print, red: f32, green: f32, blue: f32) -> io::Result<()> {
     print_bytes(
+        rt,
         screen::screen_byte(red),
         screen::screen_byte(green),
         screen::screen_byte(blue),
-    );
+    )
 }
 
-fn at_once(plan: Plan) {
+fn at_once(rt: &impl Print, plan: Plan) -> io::Result<()> {
     let mut a: [f32; 3] = [0.0, 0.01979, 0.0];
     let mut b: [f32; 3] = [0.8453, 0.37586, 0.0];
     let mut c: [f32; 3] = [0.8453, 0.36405, 0.0];
@@ -88,8 +83,7 @@ fn at_once(plan: Plan) {
     let outcome = ran.outcome;
     let ended = run::paper(outcome);
     if ended.number != 0 || ended.width != 3 {
-        io::write_all(STDOUT_FILENO, b"the run is refused\n");
-        return;
+        return rt.println("the run is refused");
     }
     let mut red = [0u8; 3];
     let mut green = [0u8; 3];
@@ -97,13 +91,13 @@ fn at_once(plan: Plan) {
     screen::screen_bytes(&a, &mut red);
     screen::screen_bytes(&b, &mut green);
     screen::screen_bytes(&c, &mut blue);
-    print_bytes(red[0], green[0], blue[0]);
-    print_bytes(red[1], green[1], blue[1]);
-    print_bytes(red[2], green[2], blue[2]);
+    print_bytes(rt, red[0], green[0], blue[0])?;
+    print_bytes(rt, red[1], green[1], blue[1])?;
+    print_bytes(rt, red[2], green[2], blue[2])
 }
 
 // The same three samples by two strips, of one and of two.
-fn by_strips(plan: Plan) {
+fn by_strips(rt: &impl Print, plan: Plan) -> io::Result<()> {
     let mut a: [f32; 1] = [0.0];
     let mut b: [f32; 1] = [0.8453];
     let mut c: [f32; 1] = [0.8453];
@@ -117,29 +111,27 @@ fn by_strips(plan: Plan) {
     let answer = closed.answer;
     let ended = strips::paper(answer);
     if ended.number != 0 || ended.width != 3 {
-        io::write_all(STDOUT_FILENO, b"the run by strips is refused\n");
-        return;
+        return rt.println("the run by strips is refused");
     }
-    io::write_all(STDOUT_FILENO, b"the same by strips\n");
-    print_sample(a[0], b[0], c[0]);
-    print_sample(d[0], e[0], f[0]);
-    print_sample(d[1], e[1], f[1]);
+    rt.println("the same by strips")?;
+    print_sample(rt, a[0], b[0], c[0])?;
+    print_sample(rt, d[0], e[0], f[0])?;
+    print_sample(rt, d[1], e[1], f[1])
 }
 
 // A white sample, one of a red box, and a black one, from XYB to linear RGB and to bytes for a screen.
-fn picture() {
+fn picture(rt: &impl Print) -> io::Result<()> {
     let source = side(ColourSpace::Xyb, WhitePoint::D65, Curve::Linear);
     let target = side(ColourSpace::Rgb, WhitePoint::D65, Curve::Linear);
     let planned = planner::plan(source, target, settings(255.0, false));
     let reached = planned.answer;
     if planner::paper(reached).number != 0 {
-        io::write_all(STDOUT_FILENO, b"the plan is refused\n");
-        return;
+        return rt.println("the plan is refused");
     }
     let plan = planned.plan;
-    show_plan(b"Xyb to Rgb, intensity 255\n", plan);
-    at_once(plan);
-    by_strips(plan);
+    show_plan(rt, "Xyb to Rgb, intensity 255\n", plan)?;
+    at_once(rt, plan)?;
+    by_strips(rt, plan)
 }
 
 fn is_identity(m: Mat3) -> bool {
@@ -155,7 +147,7 @@ fn is_identity(m: Mat3) -> bool {
 }
 
 // D65 by its coordinates has the same floats, and is another white point.
-fn custom_white() {
+fn custom_white(rt: &impl Print) -> io::Result<()> {
     let source = side(ColourSpace::Rgb, WhitePoint::D65, Curve::Linear);
     let white = WhitePoint::Custom(Millionths {
         x: 312_700,
@@ -164,56 +156,57 @@ fn custom_white() {
     let target = side(ColourSpace::Rgb, white, Curve::Linear);
     let planned = planner::plan(source, target, settings(255.0, false));
     let plan = planned.plan;
-    show_plan(b"\nRgb to Rgb with Custom white\n", plan);
+    show_plan(rt, "\nRgb to Rgb with Custom white\n", plan)?;
     if is_identity(ciexyz::adapt_mat(WhitePoint::D65, white)) {
-        io::write_all(STDOUT_FILENO, b"the adaptation is the identity\n");
+        rt.println("the adaptation is the identity")?;
     }
+    Ok(())
 }
 
-fn to_srgb(title: &[u8], intensity: f32) {
+fn to_srgb(rt: &impl Print, title: &str, intensity: f32) -> io::Result<()> {
     let source = side(ColourSpace::Rgb, WhitePoint::D65, Curve::Linear);
     let target = side(ColourSpace::Rgb, WhitePoint::D65, Curve::Srgb);
     let planned = planner::plan(source, target, settings(intensity, false));
     let plan = planned.plan;
-    show_plan(title, plan);
+    show_plan(rt, title, plan)
 }
 
-fn pq_to_hlg(title: &[u8], intensity: f32) {
+fn pq_to_hlg(rt: &impl Print, title: &str, intensity: f32) -> io::Result<()> {
     let source = side(ColourSpace::Rgb, WhitePoint::D65, Curve::Pq);
     let target = side(ColourSpace::Rgb, WhitePoint::D65, Curve::Hlg);
     let planned = planner::plan(source, target, settings(intensity, true));
     let plan = planned.plan;
-    show_plan(title, plan);
+    show_plan(rt, title, plan)
 }
 
 // The plan of the picture as the office sends it: written as a plan block of a version, and read from there.
-fn office(title: &[u8], version: u16) {
+fn office(rt: &impl Print, title: &str, version: u16) -> io::Result<()> {
     let source = side(ColourSpace::Xyb, WhitePoint::D65, Curve::Linear);
     let target = side(ColourSpace::Rgb, WhitePoint::D65, Curve::Linear);
     let planned = planner::plan(source, target, settings(255.0, false));
     let plan = planned.plan;
     let mut bytes = [0u8; 64];
     let written = writer::write(plan, version, &mut bytes);
-    io::write_all(STDOUT_FILENO, title);
-    io::print_decimal(STDOUT_FILENO, writer::length(written) as u64);
+    let length = writer::length(written);
+    print!(rt; "{title}{length}")?;
     let read = block::read(&bytes);
     let sent = read.plan;
-    show_plan(b" bytes; read by the portal\n", sent);
+    show_plan(rt, " bytes; read by the portal\n", sent)
 }
 
 // The three samples of the picture, run by one list and then by another, as grey bytes for a screen.
-fn show_grey(title: &[u8], first: Plan, second: Plan) {
+fn show_grey(rt: &impl Print, title: &str, first: Plan, second: Plan) -> io::Result<()> {
     let mut a: [f32; 3] = [0.0, 0.01979, 0.0];
     let mut b: [f32; 3] = [0.8453, 0.37586, 0.0];
     let mut c: [f32; 3] = [0.8453, 0.36405, 0.0];
     run::run(first, &mut a, &mut b, &mut c);
     run::run(second, &mut a, &mut b, &mut c);
-    io::write_all(STDOUT_FILENO, title);
-    print_sample(a[0], a[1], a[2]);
+    rt.print(title)?;
+    print_sample(rt, a[0], a[1], a[2])
 }
 
 // The portal's plan of the picture joined to that of a screen with one channel.
-fn joined() {
+fn joined(rt: &impl Print) -> io::Result<()> {
     let xyb = side(ColourSpace::Xyb, WhitePoint::D65, Curve::Linear);
     let rgb = side(ColourSpace::Rgb, WhitePoint::D65, Curve::Linear);
     let grey = side(ColourSpace::Grey, WhitePoint::D65, Curve::Linear);
@@ -224,25 +217,24 @@ fn joined() {
     let one = join::join(portal, screen);
     let answer = one.answer;
     if list::paper(answer).number != 0 {
-        io::write_all(STDOUT_FILENO, b"the join is refused\n");
-        return;
+        return rt.println("the join is refused");
     }
     let plan = one.plan;
-    show_plan(b"\nXyb to Rgb, joined to Rgb to Grey\n", plan);
-    show_grey(b"the joined list: ", plan, list::empty(1));
-    show_grey(b"one after the other: ", portal, screen);
+    show_plan(rt, "\nXyb to Rgb, joined to Rgb to Grey\n", plan)?;
+    show_grey(rt, "the joined list: ", plan, list::empty(1))?;
+    show_grey(rt, "one after the other: ", portal, screen)
 }
 
-fn main() {
-    picture();
-    custom_white();
-    to_srgb(b"\nLinear to Srgb, intensity 255\n", 255.0);
-    to_srgb(b"\nLinear to Srgb, the next above 255\n", 255.00002);
-    pq_to_hlg(b"\nPq to Hlg, the next below 999\n", 998.99994);
-    pq_to_hlg(b"\nPq to Hlg, 999\n", 999.0);
-    pq_to_hlg(b"\nPq to Hlg, 1001\n", 1001.0);
-    pq_to_hlg(b"\nPq to Hlg, the next above 1001\n", 1001.00006);
-    office(b"\nXyb to Rgb, written by the office in version 1: ", 1);
-    office(b"\nXyb to Rgb, written by the office in version 2: ", 2);
-    joined();
+fn main(rt: HostRuntime) -> io::Result<()> {
+    picture(&rt)?;
+    custom_white(&rt)?;
+    to_srgb(&rt, "\nLinear to Srgb, intensity 255\n", 255.0)?;
+    to_srgb(&rt, "\nLinear to Srgb, the next above 255\n", 255.00002)?;
+    pq_to_hlg(&rt, "\nPq to Hlg, the next below 999\n", 998.99994)?;
+    pq_to_hlg(&rt, "\nPq to Hlg, 999\n", 999.0)?;
+    pq_to_hlg(&rt, "\nPq to Hlg, 1001\n", 1001.0)?;
+    pq_to_hlg(&rt, "\nPq to Hlg, the next above 1001\n", 1001.00006)?;
+    office(&rt, "\nXyb to Rgb, written by the office in version 1: ", 1)?;
+    office(&rt, "\nXyb to Rgb, written by the office in version 2: ", 2)?;
+    joined(&rt)
 }
