@@ -15,8 +15,8 @@ use Rattle.buffer.proofs.Putting.{rest, both}
 use Rattle.writer.specs.Bytes.{joined, value_bytes, op_bytes}
 use Rattle.writer.specs.Writing.{bad_value, bad_op}
 use Rattle.writer.proofs.Cells.{values_in_lem, few_values}
-use Rattle.writer.proofs.laying.put_op.Statement.{statement}
-use Rattle.writer.proofs.laying.put_op.Tie as tie
+
+use Rattle.writer.proofs.laying.put_op.Goals as goal
 
 module _ (o : Op) {r : Parts} (e : r ≡ parts_of o) {old : List ℕ} {at : ℕ} (room : Room old at (op_bytes o)) {mid : List ℕ} {m : ℕ} (kind : Put old at (r.kind ∷ []) mid m) where
   filled : map value_of (take r.count r.cells) ≡ values_of o
@@ -31,30 +31,19 @@ module _ (o : Op) {r : Parts} (e : r ≡ parts_of o) {old : List ℕ} {at : ℕ}
   gives : {new : List ℕ} {q : ℕ} → Put mid m (joined value_bytes (map value_of (take r.count r.cells))) new q → Put old at (op_bytes o) new q
   gives p = both (kind_of o ∷ []) (joined value_bytes (values_of o)) room number (rw filled at p)
 
-parts-of-requires : tie.Need-parts-of-requires
-parts-of-requires c κs = search rules
 
-slice-aggregate-put : tie.Need-slice-aggregate-put
-slice-aggregate-put c = search rules
+pub put_values-requires : goal.put_values-requires
+put_values-requires c =
+    let k = c in
+    let z = k in
+    let e = asks z.args.op k.parts_of-parts.ensures z.requires.room k.put-next.ensures z.requires.op_value in
+    record { room = e.0; count_bound = e.1 }
 
-put-requires : tie.Need-put-requires
-put-requires c κs = search rules
-
-put-values-requires : tie.Need-put-values-requires
-put-values-requires c κs =
-    let k = c.before.before.before in
-    let z = k.before.before.before.before.before.before in
-    asks z.args.op k.before.before.before.before.parts_of.ensures z.requires.0 k.put.ensures z.requires.1
-
-same_length : tie.Need-same-length
-same_length c = search rules
-
-returns : tie.Need-returns
+pub returns : goal.returns
 returns c =
-    let v = c.before.before in
-    let k = v.before.before.before.before in
-    let z = k.before.before.before.before.before.before in
-    gives z.args.op k.before.before.before.before.parts_of.ensures z.requires.0 k.put.ensures v.put-values.ensures
+    let v = c in
+    let k = v in
+    let z = k in
+    gives z.args.op k.parts_of-parts.ensures z.requires.room k.put-next.ensures v.put_values.ensures
 
-pub put-op-spec : {M : Type 1} → statement M
-put-op-spec = tie.close (tie.spec parts-of-requires slice-aggregate-put put-requires put-values-requires same_length returns)
+
