@@ -116,7 +116,7 @@ op-held o p = by o (Enum.owed TOp.the_type LOp.the_laws o _ p)
     by (O.GamutMap l f) q = followed (luminances_values l) (the_float f ∷ []) (luminances_held l q.0) (f32 f q.1.0, tt)
     by O.Clip q = tt
 
-slots_held : (n : ℕ) (ss : List Slot) (us : List Val) → shadow (each (TSlot.the_field).row.Denot (TSlot.the_field).row.own_val (map (TSlot.the_field).into ss) us) → All OpHeld (map op_of (take n ss))
+slots_held : (n : ℕ) (ss : List Slot) (us : List Val) → shadow (each (TSlot.the_row).Denot (TSlot.the_row).own_val ss us) → All OpHeld (map op_of (take n ss))
 slots_held zero ss us p = tt
 slots_held (suc n) [] us p = tt
 slots_held (suc n) (s ∷ ss) [] p = absurd p

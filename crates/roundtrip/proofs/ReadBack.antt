@@ -12,7 +12,7 @@ use Rattle.notation.proofs.Tests.{fails_exactly}
 use Rattle.list.specs.Lists.{ops_of, plan_of}
 use Rattle.list.specs.declared.Plan.{Plan}
 use Rattle.list.proofs.Building.{ops-of, plan-true, counted}
-use Rattle.same.specs.Same.{same_list}
+use Rattle.same.specs.Same.{same_list as is_same_list}
 use Rattle.same.proofs.Exactly.{true_lists_same}
 use Rattle.block.specs.Block.{read_of, RestOf}
 use Rattle.block.specs.declared.Reading.TheVariants.{Done}
@@ -48,10 +48,10 @@ module _ (p : Plan) (y : Typed p) (v : ℕ) (old : List ℕ) (e : paper (writing
   read_back = is-read-back ∙ rw is-long
 
   -- "returns the same list"
-  pub same_list : same_list (read_of sent).plan p ≡ true
+  pub same_list : is_same_list (read_of sent).plan p ≡ true
   same_list =
       let z = (zero-exactly p v (length old)).0 e in
-      ap (λ (b : Block). same_list b.plan p) is-read-back
+      ap (λ (b : Block). is_same_list b.plan p) is-read-back
       ∙ (true_lists_same (plan_of p.start (ops_of p)) p (plan-true p.start (ops_of p)) z.0.1).1
       (refl, counted p y.slots z.0.0.1, ops-of p.start (ops_of p))
 
