@@ -1,0 +1,11 @@
+-- `words::put` meets its contract.
+-- There is room, so the bytes are put.
+use borrow.Author.Rules.{rules}
+use Rattle.buffer.proofs.Putting.{putting}
+use Rattle.listing.proofs.words.put.Goals as goal
+
+pub returns : goal.returns
+returns c =
+    let p = c in
+    let z = p in
+    putting z.args.out.now z.args.at z.args.text.now z.requires p.put.ensures.value p.put.ensures.out_after
