@@ -1,16 +1,10 @@
 -- `line_each` converts each pixel, its chroma widened.
 -- The loop argument is `Converting`'s, for the function `rgb_by f` and the widened channels.
-use Prim.Native.Nat.{◌-◌, ◌<◌, ◌≤◌}
-use mathlib.Core.Path.{◌∙◌}
-use native.Mathlib.Omega.{arith}
-use borrow.Author.Rules.{rules}
+use Prim.Native.Nat.{◌-◌}
 use lib.ListN.{length}
 use Rattle.pixel.specs.Factors.{rgb_by}
-use Rattle.planes.proofs.Converting.{Converted, converted, converting_begun, converting-ended}
-use Rattle.half.specs.Widening.{widened, widened_at}
-use Rattle.half.proofs.Lines.{line_at}
-use Rattle.half.proofs.Rules.{output_is}
-use Rattle.half_line.proofs.Exactly.{all_as_long, as_long, half_as_long}
+use Rattle.planes.proofs.Converting.{Converted}
+use Rattle.half.specs.Widening.{widened}
 use Rattle.half_line.proofs.line_each.Given as goal
 
 abbrev pub invariant-loop-i : goal.invariant-loop-i

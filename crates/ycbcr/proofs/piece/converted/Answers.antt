@@ -1,0 +1,26 @@
+-- `converted` makes of a piece what `rgb_by` makes of each triple.
+-- The test of `keep` gives what the blocks require; where it fails, the loop goes over the piece that was kept.
+use Rattle.std.proofs.Common.{◌≡◌, List, map, length, ap, ◌∙◌, rules}
+use lib.ListN.{length-map}
+use lib.Ieee.{Float}
+use Rattle.channels.specs.Channels.{channels, each}
+use Rattle.ycbcr.specs.declared.Constants.{Constants}
+use Rattle.ycbcr.specs.Ycbcr.{raised, rgb_by}
+use Rattle.ycbcr.specs.Steps.{rgb_raised}
+use Rattle.ycbcr.proofs.Raised.{each-raised}
+use Rattle.ycbcr.proofs.piece.converted.Goals as goal
+
+-- v is the luma with its offset
+offset : (k : Constants) (x y z : List Float) {v : List Float} → v ≡ map raised y → each (rgb_raised k) (channels x v z) ≡ each (rgb_by k) (channels x y z)
+offset k x y z e = ap (λ (t : List Float). each (rgb_raised k) (channels x t z)) e ∙ each-raised k x y z
+
+pub returns-then-keep : goal.returns-then-keep
+returns-then-keep c =
+    let a = c.args in
+    c.by_blocks.ensures ∙ offset a.k a.cb.now a.y.now a.cr.now c.keep.ensures.y_after
+
+pub returns-else-keep : goal.returns-else-keep
+returns-else-keep c =
+    let a = c.args in
+    let k = c.keep.ensures in
+    c.each_alone.ensures ∙ ap (each (rgb_raised a.k)) k.r_after ∙ offset a.k a.cb.now a.y.now a.cr.now k.y_after

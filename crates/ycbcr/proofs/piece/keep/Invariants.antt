@@ -1,0 +1,18 @@
+-- `keep` puts the offset on the luma, copies the three channels, and says whether every pixel is ready.
+-- The loop argument is `Rewriting`'s for the offset and for the copies; the digits show every pixel that was passed (`Patterns`).
+use Rattle.std.proofs.Common.{◌≡◌, ℕ, ◌-◌, ◌<◌, map, length, get_or, sym, refl, ap, ◌∙◌, subst, arith, rules, below_more}
+use lib.Ieee.{Float, nan}
+use Rattle.notation.proofs.Elements.{map_at}
+use Rattle.notation.proofs.Rewriting.{Rewritten, begun, ended, map-begun, read, write}
+use Rattle.channels.specs.Channels.{vec}
+use Rattle.ycbcr.specs.Ycbcr.{raised}
+use Rattle.ycbcr.proofs.Patterns.{AllShown, now-shown, ready_within, still-shown}
+use Rattle.ycbcr.proofs.piece.keep.Given as goal
+
+abbrev pub invariant-loop-i : goal.invariant-loop-i
+invariant-loop-i l = let luma = map raised l.initial.y in
+    (l.n ≡ length l.cb) × Rewritten luma l.initial.y l.i l.y × Rewritten l.cb l.initial.p l.i l.p × Rewritten luma l.initial.q l.i l.q × Rewritten l.cr l.initial.r l.i l.r
+    × ((j : ℕ) → j < l.i → AllShown l.any l.all (vec (get_or l.cb j nan) (get_or luma j nan) (get_or l.cr j nan)))
+
+abbrev pub decreases-loop-i : goal.decreases-loop-i
+decreases-loop-i l = length l.cb - l.i

@@ -1,0 +1,15 @@
+-- `ycbcr_to_rgb` converts each triple where `judge` lets it, and changes nothing where it does not.
+-- The answer Done gives the lengths; the constants are those of the firmware's weights, and of the window (`Factors`).
+use Rattle.std.proofs.Common.{◌≡◌, ℕ, sym, ap, ◌∙◌, subst, rules}
+use Rattle.channels.specs.Channels.{Channels, channels, equally_long}
+use Rattle.channels.proofs.Lengths.{equal_exactly}
+use Rattle.firmware.specs.Firmware.{weights_of}
+use Rattle.firmware.specs.Conversion.{conversion_of}
+use Rattle.firmware.proofs.Exactly.{done-equal}
+use Rattle.ycbcr.specs.Ycbcr.{constants_of, rgb_by, rgb_of}
+use Rattle.ycbcr.specs.Steps.{Factors}
+use Rattle.ycbcr.proofs.Factors.{factors_of_lem}
+use Rattle.ycbcr.proofs.ycbcr_to_rgb.Goals as goal
+
+pub rgb_each-requires-clause-factors : goal.rgb_each-requires-clause-factors
+rgb_each-requires-clause-factors c = subst Factors (sym (c.constants_of-k.ensures ∙ ap constants_of c.weights_of.ensures)) (factors_of_lem c.args.firmware)
