@@ -4,7 +4,6 @@
 
 use std::io;
 
-
 const MODULUS: u64 = 4294967291;
 
 #[derive(Clone, Copy)]

@@ -1,0 +1,10 @@
+-- `with` is safe and ends.
+-- Each turn is one byte further.
+use Rattle.std.proofs.Common.{◌-◌, ◌≤◌}
+use Rattle.every_pixel.proofs.with.Given as goal
+
+abbrev pub invariant-loop-i : goal.invariant-loop-i
+invariant-loop-i l = l.i ≤ 256
+
+abbrev pub decreases-loop-i : goal.decreases-loop-i
+decreases-loop-i l = 256 - l.i
