@@ -78,12 +78,7 @@ pub fn bytes_of(channels: u8, pixels: usize) -> usize
 }
 
 // Reads on until the input has so many bytes at its front, of which it holds some, or until there are no more; how many it then holds.
-pub fn filled(
-    rt: &impl Input,
-    input: &mut [u8],
-    held: usize,
-    want: usize,
-) -> io::Result<usize>
+pub fn filled(rt: &impl Input, input: &mut [u8], held: usize, want: usize) -> io::Result<usize>
     requires { want ≤ length input.old }
     ensures { IfOk result (λ n. n ≤ held + want) }
 {
@@ -117,11 +112,7 @@ pub fn is_done(stage: Stage) -> bool {
     }
 }
 
-pub fn header_refused(
-    rt: &(impl Eprint + Files),
-    program: &str,
-    stage: Stage,
-) -> io::Result<()> {
+pub fn header_refused(rt: &(impl Eprint + Files), program: &str, stage: Stage) -> io::Result<()> {
     match stage {
         Stage::NotPfm => saying::refuse(rt, program, "this is no portable float map"),
         Stage::BadSize => saying::refuse(
