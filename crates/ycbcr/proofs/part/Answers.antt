@@ -1,6 +1,5 @@
 -- `part` is `part`.
 -- By the contracts of the two casts.
-use Rattle.std.proofs.Common.{rules}
 use Rattle.ycbcr.specs.Ycbcr.{part}
 use Rattle.ycbcr.proofs.part.Goals as goal
 

@@ -1,9 +1,7 @@
 -- `rgb_each` converts each triple.
 -- Piece by piece is as place by place (`Pieces`), for the function `rgb_by k`; the room for a piece keeps its length.
-use Rattle.std.proofs.Common.{◌≡◌, ◌-◌, length, sym, refl, ◌∙◌, arith, lit<, rules}
-use borrow.Rule.Slice.PartMut.{same_len_mid}
-use Rattle.channels.proofs.InStep.{Stepped, steps_begun, steps-ended}
-use Rattle.channels.proofs.Pieces.{length-piece, next_piece, pieces-even, room, stepped-piece}
+use Rattle.std.proofs.Common.{◌≡◌, ◌-◌, length}
+use Rattle.channels.proofs.InStep.{Stepped}
 use Rattle.ycbcr.specs.Ycbcr.{rgb_by}
 use Rattle.ycbcr.proofs.rgb_each.Given as goal
 

@@ -1,12 +1,7 @@
 -- `ycbcr_to_rgb` converts each triple where `judge` lets it, and changes nothing where it does not.
 -- The answer Done gives the lengths; the constants are those of the firmware's weights, and of the window (`Factors`).
-use Rattle.std.proofs.Common.{◌≡◌, ℕ, sym, ap, ◌∙◌, subst, rules}
-use Rattle.channels.specs.Channels.{Channels, channels, equally_long}
-use Rattle.channels.proofs.Lengths.{equal_exactly}
-use Rattle.firmware.specs.Firmware.{weights_of}
-use Rattle.firmware.specs.Conversion.{conversion_of}
-use Rattle.firmware.proofs.Exactly.{done-equal}
-use Rattle.ycbcr.specs.Ycbcr.{constants_of, rgb_by, rgb_of}
+use Rattle.std.proofs.Common.{sym, ap, ◌∙◌, subst}
+use Rattle.ycbcr.specs.Ycbcr.{constants_of}
 use Rattle.ycbcr.specs.Steps.{Factors}
 use Rattle.ycbcr.proofs.Factors.{factors_of_lem}
 use Rattle.ycbcr.proofs.ycbcr_to_rgb.Goals as goal

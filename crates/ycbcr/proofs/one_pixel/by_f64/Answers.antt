@@ -1,6 +1,6 @@
 -- `by_f64` is `quick_by`, and says where that is `rgb_raised`.
 -- Each sum of the window may be rounded by its pattern (`Quick`); where all four tests hold, none was half way.
-use Rattle.std.proofs.Common.{◌≡◌, ◌&&◌, sym, ap, ◌∙◌, rules}
+use Rattle.std.proofs.Common.{◌≡◌, ◌&&◌, sym, ap, ◌∙◌}
 use lib.Ieee.{Float, binary64, of_bits}
 use Rattle.rounding.specs.Steps.{by_f64}
 use Rattle.rounding.proofs.ByPattern.{pattern-is, pattern-single, pattern-still, surely}

@@ -1,6 +1,5 @@
 -- `fused_rgb` is `rgb_raised`.
 -- Each of the three is fused, by `mul_add`'s contract.
-use Rattle.std.proofs.Common.{rules}
 use Rattle.ycbcr.specs.Steps.{rgb_raised}
 use Rattle.ycbcr.proofs.one_pixel.fused_rgb.Goals as goal
 

@@ -1,6 +1,5 @@
 -- `is_ready` says `Ready` of a pixel.
 -- It is shown by the digits that are asked (`Patterns`).
-use Rattle.std.proofs.Common.{rules}
 use Rattle.ycbcr.proofs.Patterns.{now-shown, ready_within}
 use Rattle.ycbcr.proofs.one_pixel.is_ready.Goals as goal
 

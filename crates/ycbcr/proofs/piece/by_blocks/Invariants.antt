@@ -1,10 +1,8 @@
 -- `by_blocks` makes of a piece what `rgb_raised` makes of each triple.
 -- Block by block is as place by place (`Pieces`), for the function `rgb_raised k`; each block is ready, and kept (`Blocks`).
-use Rattle.std.proofs.Common.{◌≡◌, ◌-◌, length, refl, ap, arith, lit<, rules}
-use Rattle.channels.proofs.InStep.{Stepped, steps_begun, steps-ended}
-use Rattle.channels.proofs.Pieces.{next_piece, pieces-even, stepped-piece}
+use Rattle.std.proofs.Common.{◌≡◌, ◌-◌, length}
+use Rattle.channels.proofs.InStep.{Stepped}
 use Rattle.ycbcr.specs.Steps.{rgb_raised}
-use Rattle.ycbcr.proofs.Blocks.{block-kept, block-ready}
 use Rattle.ycbcr.proofs.piece.by_blocks.Given as goal
 
 abbrev pub invariant-loop-j : goal.invariant-loop-j

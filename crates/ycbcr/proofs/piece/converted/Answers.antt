@@ -1,7 +1,6 @@
 -- `converted` makes of a piece what `rgb_by` makes of each triple.
 -- The test of `keep` gives what the blocks require; where it fails, the loop goes over the piece that was kept.
-use Rattle.std.proofs.Common.{◌≡◌, List, map, length, ap, ◌∙◌, rules}
-use lib.ListN.{length-map}
+use Rattle.std.proofs.Common.{◌≡◌, List, map, ap, ◌∙◌}
 use lib.Ieee.{Float}
 use Rattle.channels.specs.Channels.{channels, each}
 use Rattle.ycbcr.specs.declared.Constants.{Constants}

@@ -1,8 +1,7 @@
 -- `each_alone` converts each triple that was kept.
 -- The loop argument is `Across`'s, for the function `rgb_raised k`.
-use Rattle.std.proofs.Common.{◌≡◌, ◌-◌, length, refl, arith, rules}
-use lib.Ieee.{nan}
-use Rattle.channels.proofs.Across.{Across, across_begun, across-ended, across-step}
+use Rattle.std.proofs.Common.{◌≡◌, ◌-◌, length}
+use Rattle.channels.proofs.Across.{Across}
 use Rattle.channels.proofs.InStep.{samples}
 use Rattle.ycbcr.specs.Steps.{rgb_raised}
 use Rattle.ycbcr.proofs.piece.each_alone.Given as goal

@@ -1,11 +1,10 @@
 -- `each_by_f64` converts each triple, where it says that every one is sure.
 -- The loop argument is `InStep`'s, for the function `quick_by k`, which is `rgb_raised k` at every place that was passed.
-use Rattle.std.proofs.Common.{◌≡◌, ℕ, ◌-◌, ◌<◌, true, length, get_or, sym, refl, ◌∙◌, subst, arith, below_more}
-use lib.Ieee.{nan}
+use Rattle.std.proofs.Common.{◌≡◌, ◌<◌, length, sym, refl, ◌∙◌, subst, arith, below_more}
 use Rattle.ciexyz.specs.declared.Vec3.{Vec3}
 use Rattle.channels.specs.Channels.{vec}
 use Rattle.channels.proofs.Holds.{both_hold}
-use Rattle.channels.proofs.InStep.{Stepped, each-agrees, stepped, steps_begun, steps-ended, still-row}
+use Rattle.channels.proofs.InStep.{each-agrees, stepped, steps_begun, steps-ended, still-row}
 use Rattle.ycbcr.specs.Steps.{Ready, quick_by, rgb_raised}
 use Rattle.ycbcr.proofs.piece.each_by_f64.Goals as goal
 

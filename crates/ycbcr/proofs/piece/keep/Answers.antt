@@ -1,9 +1,9 @@
 -- `keep` puts the offset on the luma, copies the three channels, and says whether every pixel is ready.
 -- The loop argument is `Rewriting`'s for the offset and for the copies; the digits show every pixel that was passed (`Patterns`).
-use Rattle.std.proofs.Common.{◌≡◌, ℕ, ◌-◌, ◌<◌, map, length, get_or, sym, refl, ap, ◌∙◌, subst, arith, rules, below_more}
+use Rattle.std.proofs.Common.{◌≡◌, ◌<◌, map, length, get_or, sym, refl, ap, ◌∙◌, subst, arith, below_more}
 use lib.Ieee.{Float, nan}
 use Rattle.notation.proofs.Elements.{map_at}
-use Rattle.notation.proofs.Rewriting.{Rewritten, begun, ended, map-begun, read, write}
+use Rattle.notation.proofs.Rewriting.{begun, ended, map-begun, read, write}
 use Rattle.channels.specs.Channels.{vec}
 use Rattle.ycbcr.specs.Ycbcr.{raised}
 use Rattle.ycbcr.proofs.Patterns.{AllShown, now-shown, ready_within, still-shown}

@@ -1,6 +1,5 @@
 -- `all_of` is the definition.
 -- By `one_less`'s contract.
-use Rattle.std.proofs.Common.{rules}
 use lib.Bits.{bit_and}
 use Rattle.ycbcr.proofs.window.all_of.Goals as goal
 

@@ -1,6 +1,6 @@
 -- `pattern` is the definition.
 -- What is capped is no NaN (`Patterns`), and so has one pattern.
-use Rattle.std.proofs.Common.{not, T, sym, ap, subst, rules}
+use Rattle.std.proofs.Common.{not, T, sym, ap, subst}
 use lib.Ieee.{Float, binary32, is_nan, to_bits}
 use Rattle.ycbcr.proofs.Patterns.{real_capped}
 use Rattle.ycbcr.proofs.window.pattern.Goals as goal
