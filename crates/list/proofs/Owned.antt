@@ -1,14 +1,13 @@
 -- What the type of a list's slots says of it: there are thirty_two.
 -- Whoever holds a value of a declared type knows this of its fields.
-use mathlib.Core.Path.{◌≡◌, sym, ◌∙◌}
+use mathlib.Core.Path.{◌≡◌}
 use mathlib.Core.List.{List}
 use mir.Val.{Val}
-use lib.ListN.{length, length-map}
+use lib.ListN.{length}
 use denote.Laws.{Is}
 use denote.Struct.Declared as StructOf
 use denote.Struct.Laws as Struct
 use Rattle.list.specs.declared.Plan.{Plan}
-use Rattle.list.specs.contracts.Slot as TSlot
 use Rattle.list.specs.contracts.Plan as TPlan
 use Rattle.list.proofs.Plan.TheLaws as LPlan
 

@@ -1,6 +1,5 @@
 -- `empty` meets its contract.
 -- It ends at its start width where that is 1 or 3, and else at 0.
-use borrow.Author.Rules.{rules}
 use Rattle.list.proofs.empty.Goals as goal
 
 pub returns-then-well_formed : goal.returns-then-well_formed

@@ -1,8 +1,6 @@
 -- `kept` meets its contract.
 -- 10 refuses the list, or its ops are those below the count.
 use mathlib.Core.Path.{sym, ◌∙◌}
-use borrow.Author.Rules.{rules}
-use borrow.Author.Tests.{not-true, not-false}
 use Rattle.list.proofs.Formed.{lawful-exactly}
 use Rattle.list.proofs.Building.{refused, as-it-is}
 use Rattle.list.proofs.kept.Goals as goal

@@ -2,8 +2,6 @@
 -- The start width and the count are not those of a list, or the end width is compared with that to which the ops lead.
 use mathlib.Core.Path.{◌≡◌, sym, ◌∙◌}
 use mathlib.Core.Bool.{true}
-use borrow.Author.Rules.{rules}
-use borrow.Author.Tests.{not-true, not-false}
 use Rattle.list.specs.Lists.{well_formed, is_true}
 use Rattle.list.proofs.Formed.{formed-exactly}
 use Rattle.list.proofs.lawful.Goals as goal

@@ -1,6 +1,5 @@
 -- `led_to` meets its contract.
 -- By whether the op finds the width that it needs.
-use borrow.Author.Tests.{not-true, not-false}
 use Rattle.list.proofs.led_to.Goals as goal
 
 pub fits-requires : goal.fits-requires

@@ -1,13 +1,10 @@
 -- `padded` meets its contract.
 -- The slots of the empty list are rewritten by the handed ones, as far as the count goes.
-use Prim.Native.Nat.{◌≤◌, ◌-◌}
 use mathlib.Core.Path.{◌≡◌, refl}
 use native.Mathlib.Omega.{arith}
 use borrow.Author.Rules.{rules}
-use lib.ListN.{length, replicate}
-use Rattle.notation.proofs.Rewriting.{Rewritten, begun, write}
-use Rattle.op.specs.declared.Op.TheVariants as O
-use Rattle.list.specs.Lists.{slot}
+use lib.ListN.{length}
+use Rattle.notation.proofs.Rewriting.{begun, write}
 use Rattle.list.proofs.Building.{filled}
 use Rattle.list.proofs.padded.Goals as goal
 

@@ -1,14 +1,11 @@
 -- `padded` meets its contract.
 -- The slots of the empty list are rewritten by the handed ones, as far as the count goes.
 use Prim.Native.Nat.{◌≤◌, ◌-◌}
-use mathlib.Core.Path.{◌≡◌, refl}
-use native.Mathlib.Omega.{arith}
-use borrow.Author.Rules.{rules}
+use mathlib.Core.Path.{◌≡◌}
 use lib.ListN.{length, replicate}
-use Rattle.notation.proofs.Rewriting.{Rewritten, begun, write}
+use Rattle.notation.proofs.Rewriting.{Rewritten}
 use Rattle.op.specs.declared.Op.TheVariants as O
 use Rattle.list.specs.Lists.{slot}
-use Rattle.list.proofs.Building.{filled}
 use Rattle.list.proofs.padded.Given as goal
 
 abbrev pub invariant-loop-i : goal.invariant-loop-i

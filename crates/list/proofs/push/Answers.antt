@@ -4,8 +4,6 @@ use Prim.Native.Nat.{◌≤◌, ◌<◌}
 use mathlib.Core.Path.{◌≡◌, sym, ◌∙◌}
 use mathlib.Core.Bool.{true}
 use native.Mathlib.Omega.{arith}
-use borrow.Author.Rules.{rules}
-use borrow.Author.Tests.{not-true, not-false}
 use lib.ListN.{length}
 use Rattle.list.specs.Lists.{ops_of, lawful}
 use Rattle.list.proofs.Owned.{thirty_two}
@@ -45,7 +43,6 @@ overflow_add-longer c =
     let below : c.args.plan.count < 32 = let h = at_most in let n = c.if-count-eq32.false in omega arith in
     omega (arith, below)
 
-
 pub returns-then-count-eq32 : goal.returns-then-count-eq32
 returns-then-count-eq32 c =
     let is_lawful : lawful c.args.plan ≡ true = sym c.lawful.ensures ∙ c.if-not-lawful.false in
@@ -53,7 +50,6 @@ returns-then-count-eq32 c =
     let full-count : length (ops_of c.args.plan) ≡ c.args.plan.count = counted c.args.plan (thirty_two c.args.plan c.well_formed.0) at_most in
     let z = c in
     c.empty-then-count-eq32.ensures ∙ no_room z.args.plan z.args.op (full-count ∙ c.if-count-eq32.true)
-
 
 pub returns : goal.returns
 returns c =
@@ -70,5 +66,3 @@ returns c =
     let h : length (ops_of p) < 32 = omega (arith, b, e) in
     rw (c.padded-longer.ensures, c.led_to.ensures)
     (one_more p.start (ops_of p) o p.count _ e b (next-end p o l b) ∙ pushes p o l h)
-
-

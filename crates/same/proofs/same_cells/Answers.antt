@@ -1,12 +1,11 @@
 -- `same::same_cells` meets its contract.
 -- The invariant: the rest of the cells, from here, compare as the whole do.
-use Prim.Native.Nat.{◌≤◌, ◌<◌, ◌-◌}
-use mathlib.Core.Path.{◌≡◌, refl, sym, ◌∙◌}
+use Prim.Native.Nat.{◌≤◌, ◌<◌}
+use mathlib.Core.Path.{refl, sym, ◌∙◌}
 use native.Mathlib.Omega.{arith}
 use borrow.Author.Rules.{rules}
-use borrow.Author.Tests.{not-true, not-false}
-use lib.ListN.{length, drop, drop_of_length-le}
-use Rattle.same.specs.Same.{same_cell, same_all}
+use lib.ListN.{length, drop_of_length-le}
+use Rattle.same.specs.Same.{same_cell}
 use Rattle.same.proofs.Comparing.{stops, goes}
 use Rattle.notation.proofs.Elements.{next}
 use Rattle.same.proofs.same_cells.Goals as goal

@@ -1,14 +1,9 @@
 -- `same::same_cells` meets its contract.
 -- The invariant: the rest of the cells, from here, compare as the whole do.
-use Prim.Native.Nat.{◌≤◌, ◌<◌, ◌-◌}
-use mathlib.Core.Path.{◌≡◌, refl, sym, ◌∙◌}
-use native.Mathlib.Omega.{arith}
-use borrow.Author.Rules.{rules}
-use borrow.Author.Tests.{not-true, not-false}
-use lib.ListN.{length, drop, drop_of_length-le}
+use Prim.Native.Nat.{◌≤◌, ◌-◌}
+use mathlib.Core.Path.{◌≡◌}
+use lib.ListN.{drop}
 use Rattle.same.specs.Same.{same_cell, same_all}
-use Rattle.same.proofs.Comparing.{stops, goes}
-use Rattle.notation.proofs.Elements.{next}
 use Rattle.same.proofs.same_cells.Given as goal
 
 abbrev pub invariant-loop-i : goal.invariant-loop-i

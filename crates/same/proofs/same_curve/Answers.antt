@@ -1,6 +1,5 @@
 -- `same::same_curve` meets its contract.
 -- The parts that it compares are those of `same_curve`.
-use borrow.Author.Rules.{rules}
 use Rattle.same.proofs.same_curve.Goals as goal
 
 pub returns : goal.returns

@@ -2,7 +2,6 @@
 -- The tests of the code are those of `same_list`.
 use mathlib.Core.Path.{◌∙◌}
 use Rattle.same.proofs.Comparing.{other-start, other-count, other-end, below-count}
-use borrow.Author.Rules.{rules}
 use Rattle.same.proofs.same_list.Goals as goal
 
 pub returns-then-a-b : goal.returns-then-a-b

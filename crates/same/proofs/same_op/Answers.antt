@@ -1,6 +1,5 @@
 -- `same::same_op` meets its contract.
 -- The kinds and the cells that it compares are those of the two ops.
-use borrow.Author.Rules.{rules}
 use Rattle.same.proofs.Comparing.{by_cells}
 use Rattle.same.proofs.same_op.Goals as goal
 

@@ -1,16 +1,13 @@
 -- `same::same_ops` meets its contract.
 -- The invariant: the rest of the ops, from here, compare as the whole do.
-use Prim.Native.Nat.{◌≤◌, ◌<◌, ◌-◌}
-use mathlib.Core.Path.{◌≡◌, refl, sym, ◌∙◌}
-use mathlib.Core.List.{map}
+use Prim.Native.Nat.{◌<◌}
+use mathlib.Core.Path.{refl, sym, ◌∙◌}
 use native.Mathlib.Omega.{arith}
 use borrow.Author.Rules.{rules}
-use borrow.Author.Tests.{not-true, not-false}
-use lib.ListN.{length, take, drop}
-use Rattle.list.specs.Lists.{op_of}
-use Rattle.same.specs.Same.{same_op, same_all}
+use lib.ListN.{length}
+use Rattle.same.specs.Same.{same_op}
 use Rattle.same.proofs.Comparing.{stops, goes}
-use Rattle.list.proofs.Walk.{next-op, no_more, no_slot}
+use Rattle.list.proofs.Walk.{next-op}
 use Rattle.same.proofs.same_ops.Goals as goal
 
 pub loop-i-init : goal.loop-i-init
@@ -52,4 +49,3 @@ loop-i-preserved c =
     let m : l.loop-i.i < length l.args.a = search rules in
     let n : l.loop-i.i < length l.args.b = search rules in
     (omega arith, sym (goes same_op (next-op _ _ _ _ h m) (next-op _ _ _ _ h n) c.same_op.ensures (c.if-not-same_op.false)) ∙ l.loop-i.invariant.1)
-

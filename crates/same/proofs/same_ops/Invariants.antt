@@ -1,16 +1,11 @@
 -- `same::same_ops` meets its contract.
 -- The invariant: the rest of the ops, from here, compare as the whole do.
-use Prim.Native.Nat.{◌≤◌, ◌<◌, ◌-◌}
-use mathlib.Core.Path.{◌≡◌, refl, sym, ◌∙◌}
+use Prim.Native.Nat.{◌≤◌, ◌-◌}
+use mathlib.Core.Path.{◌≡◌}
 use mathlib.Core.List.{map}
-use native.Mathlib.Omega.{arith}
-use borrow.Author.Rules.{rules}
-use borrow.Author.Tests.{not-true, not-false}
-use lib.ListN.{length, take, drop}
+use lib.ListN.{take, drop}
 use Rattle.list.specs.Lists.{op_of}
 use Rattle.same.specs.Same.{same_op, same_all}
-use Rattle.same.proofs.Comparing.{stops, goes}
-use Rattle.list.proofs.Walk.{next-op, no_more, no_slot}
 use Rattle.same.proofs.same_ops.Given as goal
 
 abbrev pub invariant-loop-i : goal.invariant-loop-i

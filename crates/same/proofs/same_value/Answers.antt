@@ -1,6 +1,5 @@
 -- `same::same_value` meets its contract.
 -- Each arm is a clause of `same_value`, once both values are known to be their variants.
-use borrow.Author.Rules.{rules}
 use Rattle.same.proofs.same_value.Goals as goal
 
 pub returns-in-Float-b : goal.returns-in-Float-b

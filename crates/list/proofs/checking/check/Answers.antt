@@ -1,9 +1,7 @@
 -- `checking::check` meets its contract.
 -- A lawful list has a count of at most 32, which the loop asks for.
 use mathlib.Core.Path.{sym, ◌∙◌}
-use borrow.Author.Tests.{not-true, not-false}
 use Rattle.list.proofs.Formed.{lawful-exactly}
-use borrow.Author.Rules.{rules}
 use Rattle.list.proofs.checking.check.Goals as goal
 
 pub returns-then-not-lawful : goal.returns-then-not-lawful

@@ -1,14 +1,10 @@
 -- `width::check_ops` meets its contract.
 -- The invariant: the verdict on what remains, from here, is the verdict on the whole.
-use Prim.Native.Nat.{◌≤◌, ◌<◌, ◌-◌}
-use mathlib.Core.Path.{◌≡◌, refl, sym, ◌∙◌}
-use mathlib.Core.List.{map}
+use Prim.Native.Nat.{◌<◌}
+use mathlib.Core.Path.{refl, sym, ◌∙◌}
 use native.Mathlib.Omega.{arith}
 use borrow.Author.Rules.{rules}
-use borrow.Author.Tests.{not-true, not-false}
-use lib.ListN.{take, drop, length}
-use Rattle.list.specs.Lists.{op_of}
-use Rattle.list.specs.Check.{check_from}
+use lib.ListN.{length}
 use Rattle.list.proofs.Turn.{stops, goes, ends}
 use Rattle.list.proofs.checking.check_ops.Goals as goal
 

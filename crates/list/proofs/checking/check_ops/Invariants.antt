@@ -1,15 +1,11 @@
 -- `width::check_ops` meets its contract.
 -- The invariant: the verdict on what remains, from here, is the verdict on the whole.
-use Prim.Native.Nat.{◌≤◌, ◌<◌, ◌-◌}
-use mathlib.Core.Path.{◌≡◌, refl, sym, ◌∙◌}
+use Prim.Native.Nat.{◌≤◌, ◌-◌}
+use mathlib.Core.Path.{◌≡◌}
 use mathlib.Core.List.{map}
-use native.Mathlib.Omega.{arith}
-use borrow.Author.Rules.{rules}
-use borrow.Author.Tests.{not-true, not-false}
-use lib.ListN.{take, drop, length}
+use lib.ListN.{take, drop}
 use Rattle.list.specs.Lists.{op_of}
 use Rattle.list.specs.Check.{check_from}
-use Rattle.list.proofs.Turn.{stops, goes, ends}
 use Rattle.list.proofs.checking.check_ops.Given as goal
 
 abbrev pub invariant-loop-i : goal.invariant-loop-i

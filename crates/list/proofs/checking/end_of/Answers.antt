@@ -1,7 +1,6 @@
 -- `checking::end_of` meets its contract.
 -- The width that the check tells is the one to which the ops lead.
 use mathlib.Core.List.{map}
-use borrow.Author.Rules.{rules}
 use lib.ListN.{take}
 use Rattle.list.specs.Lists.{op_of}
 use Rattle.list.proofs.Ending.{told-from}

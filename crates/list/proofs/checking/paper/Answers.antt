@@ -1,6 +1,5 @@
 -- `checking::paper` is `paper`.
 -- Each arm rewrites with the case that it took.
-use borrow.Author.Rules.{rules}
 use Rattle.list.proofs.checking.paper.Goals as goal
 
 pub returns-in-Passes : goal.returns-in-Passes
