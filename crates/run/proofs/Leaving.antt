@@ -2,10 +2,7 @@
 -- By the cases of the outcome.
 use Prim.Native.Nat.{ℕ}
 use mathlib.Core.Path.{◌≡◌, refl, ap}
-use mathlib.Core.List.{[], ◌∷◌}
 use native.Mathlib.Omega.{arith}
-use denote.Enum.Declared.{tag_of}
-use types.Run.{OneOf, miss}
 use Rattle.channels.specs.Channels.{Channels}
 use Rattle.list.specs.Lists.{ops_of}
 use Rattle.list.specs.declared.Plan.{Plan}
@@ -13,7 +10,6 @@ use Rattle.run.specs.Refusals.{outcome_of, paper}
 use Rattle.run.specs.Run.{if_done, ran_of, run_ops}
 use Rattle.run.specs.declared.Outcome.{Outcome}
 use Rattle.run.specs.declared.Outcome.TheVariants.{Done, Malformed, Unequal, Misfit, NotCarried}
-use Rattle.run.specs.contracts.Outcome as Enum
 
 pub done : (p : Plan) (s : Channels) (w : ℕ) → Done w ≡ outcome_of p s → run_ops p.start (ops_of p) s ≡ ran_of p s
 done p s w e = ap (λ (o : Outcome). if_done o (run_ops p.start (ops_of p) s) s) e
@@ -29,8 +25,8 @@ pub refused : (p : Plan) (s : Channels) → ¬ ((paper (outcome_of p s)).number 
 refused p s n = left_alone (outcome_of p s) n (run_ops p.start (ops_of p) s) s
 
 -- what the code's `else` knows of the outcome
-pub not_done : (o : Outcome) → OneOf (1 ∷ 2 ∷ 3 ∷ 4 ∷ []) (tag_of Enum.the_type o) → ¬ ((paper o).number ≡ 0)
-not_done (Done w) h = absurd (miss (1 ∷ 2 ∷ 3 ∷ 4 ∷ []) 0 tt h)
+pub not_done : (o : Outcome) → ((w : ℕ) → o ≡ Done w → ⊥) → ¬ ((paper o).number ≡ 0)
+not_done (Done w) h = absurd (h w refl)
 not_done Malformed h = omega arith
 not_done Unequal h = omega arith
 not_done (Misfit i) h = omega arith
