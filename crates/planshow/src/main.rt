@@ -7,11 +7,9 @@ mod turned;
 ghost use Rattle.std.specs.Prelude.{◌≡◌, ◌+◌, ◌≤◌, ◌<◌, IfOk, length};
 
 use pfm::Numbers;
-use std::fs;
 use std::fs::File;
-use std::io;
 use std::io::ErrorKind;
-use std::process;
+use std::{fs, io, process};
 
 // How far the picture is: how many bytes the input holds at its front, how many pixels are left, and that nothing was refused.
 #[derive(Clone, Copy)]

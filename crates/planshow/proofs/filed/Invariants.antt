@@ -1,0 +1,11 @@
+-- `filed` is safe, and ends.
+-- Each strip leaves fewer pixels, and the input keeps its length.
+use mathlib.Core.Path.{◌≡◌}
+use lib.ListN.{length}
+use Rattle.planshow.proofs.filed.Given as goal
+
+abbrev pub invariant-loop-p : goal.invariant-loop-p
+invariant-loop-p l = length l.input ≡ length l.initial.input
+
+abbrev pub decreases-loop-p : goal.decreases-loop-p
+decreases-loop-p l = l.p.left
