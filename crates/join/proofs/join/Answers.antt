@@ -2,12 +2,10 @@
 -- A refusal gives the empty list; where the lists pass, the second's ops have room behind the first's.
 use mathlib.Core.Path.{ap, sym, ◌∙◌}
 use native.Mathlib.Omega.{arith}
-use borrow.Author.Rules.{rules}
 use Rattle.list.specs.Answer.{paper}
 use Rattle.join.specs.Refusals.{Joinable}
 use Rattle.join.proofs.Exactly.{zero-exactly}
 use Rattle.join.proofs.Passing.{appends}
-use Rattle.join.proofs.Refused.{refuses}
 use Rattle.join.proofs.join.Goals as goal
 
 pub with_ops-requires : goal.with_ops-requires

@@ -3,8 +3,6 @@
 use mathlib.Core.Path.{◌≡◌, sym, ◌∙◌}
 use mathlib.Core.Bool.{true}
 use native.Mathlib.Omega.{arith}
-use borrow.Author.Rules.{rules}
-use borrow.Author.Tests.{not-true, not-false}
 use Rattle.list.specs.Lists.{lawful}
 use Rattle.list.proofs.Formed.{lawful-exactly}
 use Rattle.join.proofs.joinable.Goals as goal

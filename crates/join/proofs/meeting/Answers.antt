@@ -2,7 +2,6 @@
 -- The widths are compared; then each arm rewrites with what the check said of the second list, whose position is below its count.
 use mathlib.Core.Path.{sym, ◌∙◌}
 use native.Mathlib.Omega.{arith}
-use borrow.Author.Rules.{rules}
 use borrow.Author.Tests.{eq-eqb, ne_eqb}
 use Rattle.list.proofs.Bounds.{misfit-lawful, position-below}
 use Rattle.join.proofs.meeting.Goals as goal

@@ -2,8 +2,6 @@
 -- Refused by 10, or each arm rewrites with what the check said of the first list.
 use mathlib.Core.Path.{◌≡◌, sym, ◌∙◌}
 use mathlib.Core.Bool.{true}
-use borrow.Author.Rules.{rules}
-use borrow.Author.Tests.{not-true, not-false}
 use Rattle.list.proofs.Bounds.{passes-lawful}
 use Rattle.join.specs.Join.{joinable}
 use Rattle.join.proofs.verdict_of.Goals as goal

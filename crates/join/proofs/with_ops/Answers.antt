@@ -1,6 +1,6 @@
 -- `with_ops` meets its contract.
 -- The invariant: the list so far is the kept one with as many ops behind it as were pushed.
-use Prim.Native.Nat.{ℕ, ◌≤◌, ◌<◌, ◌-◌}
+use Prim.Native.Nat.{ℕ, ◌<◌}
 use mathlib.Core.Path.{◌≡◌, ap, ◌∙◌}
 use mathlib.Core.List.{map}
 use native.Mathlib.Omega.{arith}

@@ -1,13 +1,10 @@
 -- `with_ops` meets its contract.
 -- The invariant: the list so far is the kept one with as many ops behind it as were pushed.
-use Prim.Native.Nat.{ℕ, ◌≤◌, ◌<◌, ◌-◌}
-use mathlib.Core.Path.{◌≡◌, ap, ◌∙◌}
+use Prim.Native.Nat.{◌≤◌, ◌-◌}
+use mathlib.Core.Path.{◌≡◌}
 use mathlib.Core.List.{map}
-use native.Mathlib.Omega.{arith}
-use borrow.Author.Rules.{rules}
-use lib.ListN.{take, length}
+use lib.ListN.{take}
 use Rattle.list.specs.Lists.{op_of, appended}
-use Rattle.join.proofs.Turn.{begun, next, ended}
 use Rattle.join.proofs.with_ops.Given as goal
 
 abbrev pub invariant-loop-i : goal.invariant-loop-i

@@ -1,15 +1,11 @@
 -- `first_uncarried` finds the first op that is not carried.
 -- The invariant: the first of what remains, from here, is the first of the whole.
-use Prim.Native.Nat.{◌-◌, ◌<◌, ◌≤◌}
-use mathlib.Core.Path.{refl, sym, ◌∙◌, ◌≡◌}
+use Prim.Native.Nat.{◌-◌, ◌≤◌}
+use mathlib.Core.Path.{◌≡◌}
 use mathlib.Core.List.{map}
-use native.Mathlib.Omega.{arith}
-use borrow.Author.Rules.{rules}
-use borrow.Author.Tests.{not-false, not-true}
-use lib.ListN.{drop, length, take}
+use lib.ListN.{drop, take}
 use Rattle.list.specs.Lists.{op_of}
 use Rattle.judge.specs.Judging.{uncarried_from}
-use Rattle.judge.proofs.Turn.{goes_on, no-more-ops, stops}
 use Rattle.judge.proofs.first_uncarried.Given as goal
 
 abbrev pub invariant-loop-i : goal.invariant-loop-i

@@ -1,7 +1,6 @@
 -- `judge` is `judge_of`.
 -- Each arm rewrites with the cases that it took; a list that passes the check has a count of at most 32.
 use mathlib.Core.Path.{ap, sym, ◌∙◌}
-use borrow.Author.Rules.{rules}
 use Rattle.list.specs.Answer.{paper}
 use Rattle.list.proofs.Exactly.{passes-exactly}
 use Rattle.judge.proofs.judge.Goals as goal

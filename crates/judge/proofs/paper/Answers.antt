@@ -1,6 +1,5 @@
 -- `paper` gives 01's answer for each case.
 -- Each arm rewrites with the case that it took.
-use borrow.Author.Rules.{rules}
 use Rattle.judge.proofs.paper.Goals as goal
 
 pub returns-in-Ready : goal.returns-in-Ready

@@ -9,7 +9,6 @@ use Rattle.listing.specs.Listing.{lines}
 use Rattle.buffer.proofs.Putting.{first, rest, both}
 use Rattle.list.proofs.Bounds.{passes-lawful, misfit-lawful}
 use Rattle.listing.proofs.Small.{width_small, position-small}
-use Rattle.listing.proofs.put_list.Tie as tie
 use Rattle.listing.proofs.put_list.Goals as goal
 
 pub returns-in-Passes : goal.returns-in-Passes

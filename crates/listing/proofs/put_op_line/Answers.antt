@@ -9,7 +9,6 @@ use Rattle.listing.specs.Words.{title_of, decimal}
 use Rattle.listing.specs.Listing.{op_line}
 use Rattle.buffer.specs.Buffer.{Room, Put}
 use Rattle.buffer.proofs.Putting.{first, Goes, begun, next, further}
-use Rattle.listing.proofs.put_op_line.Tie as tie
 use Rattle.listing.proofs.put_op_line.Goals as goal
 
 -- what is left behind the number, and behind the space

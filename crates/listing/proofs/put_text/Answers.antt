@@ -8,7 +8,6 @@ use Rattle.listing.specs.Listing.{block_text}
 use Rattle.buffer.specs.Buffer.{Room, Put}
 use Rattle.listing.proofs.Answering.{done, refused}
 use Rattle.listing.proofs.Small.{number_small}
-use Rattle.listing.proofs.put_text.Tie as tie
 use Rattle.listing.proofs.put_text.Goals as goal
 
 pub put_list-requires : goal.put_list-requires

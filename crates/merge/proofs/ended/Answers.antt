@@ -1,6 +1,5 @@
 -- `merge::ended` meets its contract.
 -- By the run that it is given.
-use borrow.Author.Rules.{rules}
 use Rattle.merge.proofs.ended.Goals as goal
 
 pub returns-in-Empty : goal.returns-in-Empty

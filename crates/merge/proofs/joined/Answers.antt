@@ -1,6 +1,5 @@
 -- `merge::joined` meets its contract.
 -- By the run that it is given.
-use borrow.Author.Rules.{rules}
 use Rattle.merge.proofs.joined.Goals as goal
 
 pub returns-in-Empty : goal.returns-in-Empty

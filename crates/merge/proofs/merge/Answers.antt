@@ -1,9 +1,7 @@
 -- `merge::merge` meets its contract.
 -- A list that is not lawful is refused, and the loop asks for a lawful one.
 use mathlib.Core.Path.{sym, ◌∙◌}
-use borrow.Author.Tests.{not-true, not-false}
 use Rattle.list.proofs.Formed.{lawful-exactly}
-use borrow.Author.Rules.{rules}
 use Rattle.merge.proofs.merge.Goals as goal
 
 pub returns-then-not-lawful : goal.returns-then-not-lawful

@@ -1,15 +1,10 @@
 -- `merge::merge_ops` meets its contract.
 -- The invariant: what is put out, and then what the held run and the rest merge to, is what the whole merges to.
-use Prim.Native.Nat.{◌≤◌, ◌<◌, ◌-◌}
-use mathlib.Core.Path.{◌≡◌, ◌∙◌}
-use mathlib.Core.List.{[], ◌++◌, map}
-use mathlib.Core.Logic.{⊎_elim}
+use Prim.Native.Nat.{◌<◌}
+use mathlib.Core.Path.{◌∙◌}
 use native.Mathlib.Omega.{arith}
 use borrow.Author.Rules.{rules}
-use lib.ListN.{take, drop, length}
-use Rattle.list.specs.Lists.{op_of, plan_of, appended}
-use Rattle.merge.specs.Merge.{merge_ops}
-use Rattle.merge.specs.Steps.{held}
+use lib.ListN.{length}
 use Rattle.merge.proofs.Turn.{matrix-turn, other-turn, ends, room}
 use Rattle.merge.proofs.merge_ops.Goals as goal
 use Rattle.merge.proofs.merge_ops.Goals.{in-Matrix, in_default}
@@ -59,7 +54,9 @@ loop-i-preserved c =
     let h = c.loop-i-test.true in
     let k : c.loop-i.i < length a.slots = search rules in (
       omega arith,
-      (elim c.match-op.branch [ in-Matrix m ↦ matrix-turn a.count a.slots c.loop-i.i c.loop-i.out c.loop-i.run _ h k m.in-Matrix.is m.joined-run.ensures m.out-is m.run-is
-      | in_default o ↦ other-turn a.count a.slots c.loop-i.i c.loop-i.out c.loop-i.run _ h k o.in_default.not-Matrix o.ended.ensures o.push-out.ensures o.out-is o.run-is ])
-      ∙ c.loop-i.invariant.1,
+      (elim c.match-op.branch [
+        | in-Matrix m ↦ matrix-turn a.count a.slots c.loop-i.i c.loop-i.out c.loop-i.run _ h k m.in-Matrix.is m.joined-run.ensures m.out-is m.run-is
+        | in_default o ↦ other-turn a.count a.slots c.loop-i.i c.loop-i.out c.loop-i.run _ h k o.in_default.not-Matrix o.ended.ensures o.push-out.ensures o.out-is o.run-is
+      ])
+          ∙ c.loop-i.invariant.1,
     )

@@ -1,16 +1,12 @@
 -- `merge::merge_ops` meets its contract.
 -- The invariant: what is put out, and then what the held run and the rest merge to, is what the whole merges to.
-use Prim.Native.Nat.{◌≤◌, ◌<◌, ◌-◌}
-use mathlib.Core.Path.{◌≡◌, ◌∙◌}
+use Prim.Native.Nat.{◌≤◌, ◌-◌}
+use mathlib.Core.Path.{◌≡◌}
 use mathlib.Core.List.{[], ◌++◌, map}
-use mathlib.Core.Logic.{⊎_elim}
-use native.Mathlib.Omega.{arith}
-use borrow.Author.Rules.{rules}
-use lib.ListN.{take, drop, length}
+use lib.ListN.{take, drop}
 use Rattle.list.specs.Lists.{op_of, plan_of, appended}
 use Rattle.merge.specs.Merge.{merge_ops}
 use Rattle.merge.specs.Steps.{held}
-use Rattle.merge.proofs.Turn.{matrix-turn, other-turn, ends, room}
 use Rattle.merge.proofs.merge_ops.Given as goal
 
 abbrev pub invariant-loop-i : goal.invariant-loop-i

@@ -1,6 +1,5 @@
 -- `encoding_in` meets its contract.
 -- Each part is that of its number, and of the points behind it.
-use borrow.Author.Rules.{rules}
 use Rattle.numbers.specs.Sides.{encoding_in}
 use Rattle.numbers.proofs.encoding_in.Goals as goal
 

@@ -1,6 +1,5 @@
 -- `in_tables` meets its contract.
 -- Its tests are those of `in_tables`, number by number.
-use borrow.Author.Rules.{rules}
 use Rattle.numbers.specs.Sides.{in_tables}
 use Rattle.numbers.proofs.in_tables.Goals as goal
 

@@ -1,6 +1,5 @@
 -- `settings_of` meets its contract.
 -- By the contracts of the functions that read three floats.
-use borrow.Author.Rules.{rules}
 use Rattle.numbers.proofs.settings_of.Goals as goal
 
 pub returns : goal.returns

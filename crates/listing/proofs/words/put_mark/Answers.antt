@@ -4,7 +4,6 @@ use mathlib.Core.Path.{sym, ◌∙◌}
 use native.Mathlib.Omega.{arith}
 use borrow.Author.Rules.{rules}
 use Rattle.buffer.proofs.Putting.{none}
-use Rattle.listing.proofs.words.put_mark.Tie as tie
 use Rattle.listing.proofs.words.put_mark.Goals as goal
 
 pub put-requires : goal.put-requires

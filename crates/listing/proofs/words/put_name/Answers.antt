@@ -1,7 +1,6 @@
 -- `words::put_name` meets its contract.
 -- Each arm puts the name of its variant.
 use borrow.Author.Rules.{rules}
-use Rattle.listing.proofs.words.put_name.Tie as tie
 use Rattle.listing.proofs.words.put_name.Goals as goal
 
 pub put-requires : goal.put-requires
