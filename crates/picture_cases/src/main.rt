@@ -56,13 +56,21 @@ fn words(rt: &impl Print) -> io::Result<()> {
         "an unknown white point",
         b"source Rgb D66 Srgb Linear Relative\ntarget Icc\n",
     )?;
-    show_words(rt, "an unknown line", b"source Icc\ntarget Icc\ncolour red\n")?;
+    show_words(
+        rt,
+        "an unknown line",
+        b"source Icc\ntarget Icc\ncolour red\n",
+    )?;
     show_words(
         rt,
         "a line without its intent",
         b"source Rgb D65 Srgb Linear\ntarget Icc\n",
     )?;
-    show_words(rt, "a second source", b"source Icc\ntarget Icc\nsource Icc\n")?;
+    show_words(
+        rt,
+        "a second source",
+        b"source Icc\ntarget Icc\nsource Icc\n",
+    )?;
     show_words(
         rt,
         "a number of eleven digits",

@@ -134,7 +134,13 @@ fn run_behind(
 }
 
 // The plan on a picture that it can be run on.
-fn run_plan(rt: &HostRuntime, plan: Plan, numbers: Numbers, input: &mut [u8], held: usize) -> io::Result<()>
+fn run_plan(
+    rt: &HostRuntime,
+    plan: Plan,
+    numbers: Numbers,
+    input: &mut [u8],
+    held: usize,
+) -> io::Result<()>
     requires { 786432 + held ≤ length input.old }
 {
     if plan.start != numbers.channels {
@@ -144,12 +150,7 @@ fn run_plan(rt: &HostRuntime, plan: Plan, numbers: Numbers, input: &mut [u8], he
     let judgement = opened.answer;
     let judged = judge::paper(judgement);
     if judged.number != 0 {
-        return saying::refuse_by(
-            rt,
-            "planrun",
-            judged.number as u64,
-            judged.position as u64,
-        );
+        return saying::refuse_by(rt, "planrun", judged.number as u64, judged.position as u64);
     }
     let state = opened.state;
     run_behind(rt, state, judged.width, numbers, input, held)

@@ -72,12 +72,7 @@ pub(crate) fn strip(
 }
 
 // The header that came, with the letter for the width that the run ends at.
-pub(crate) fn put_header(
-    rt: &HostRuntime,
-    end: u8,
-    header: &[u8],
-    used: usize,
-) -> io::Result<()> {
+pub(crate) fn put_header(rt: &HostRuntime, end: u8, header: &[u8], used: usize) -> io::Result<()> {
     let mark = if end == 3 { b'F' } else { b'f' };
     rt.write_all(&[b'P', mark])?;
     saying::write_part(rt, header, 2, used)

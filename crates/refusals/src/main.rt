@@ -46,7 +46,12 @@ fn show(rt: &impl Print, given: &str, answer: Answer) -> io::Result<()> {
     println!(rt; "{given}: refused {number}")
 }
 
-fn show_plan(rt: &impl Print, given: &str, source: ColourEncoding, target: ColourEncoding) -> io::Result<()> {
+fn show_plan(
+    rt: &impl Print,
+    given: &str,
+    source: ColourEncoding,
+    target: ColourEncoding,
+) -> io::Result<()> {
     let planned = planner::plan(source, target, settings());
     let reached = planned.answer;
     show(rt, given, planner::paper(reached))
@@ -274,7 +279,12 @@ fn joins(rt: &impl Print) -> io::Result<()> {
     let luma = list::push(clips, Op::XyzToLuma);
     let again = list::push(luma, Op::XyzToLuma);
     let all = doubled(doubled(doubled(doubled(clips))));
-    show_join(rt, "a list of 32 ops joined to one of a single op", all, clip)?;
+    show_join(
+        rt,
+        "a list of 32 ops joined to one of a single op",
+        all,
+        clip,
+    )?;
     show_join(
         rt,
         "two Clips, XyzToLuma and again XyzToLuma joined to a Clip",
