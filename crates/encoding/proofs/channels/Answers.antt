@@ -1,6 +1,5 @@
 -- `encoding::channels` meets its contract.
 -- Each return follows the test that led to it.
-use borrow.Author.Rules.{rules}
 use Rattle.encoding.proofs.channels.Goals as goal
 
 pub returns-then-same_colour_space : goal.returns-then-same_colour_space

@@ -1,6 +1,5 @@
 -- `encoding::is_hdr` meets its contract.
 -- It compares the curve with the two that `is_hdr` names.
-use borrow.Author.Rules.{rules}
 use Rattle.encoding.proofs.is_hdr.Goals as goal
 
 pub returns : goal.returns

@@ -1,6 +1,5 @@
 -- `planner::has_unknown` meets its contract.
 -- It compares what `has_unknown` compares.
-use borrow.Author.Rules.{rules}
 use Rattle.planner.proofs.has_unknown.Goals as goal
 
 pub returns : goal.returns

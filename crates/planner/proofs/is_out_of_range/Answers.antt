@@ -1,6 +1,5 @@
 -- `planner::is_out_of_range` meets its contract.
 -- It looks at both sides, as `out_of_range` does.
-use borrow.Author.Rules.{rules}
 use Rattle.planner.proofs.is_out_of_range.Goals as goal
 
 pub returns : goal.returns

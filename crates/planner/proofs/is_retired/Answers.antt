@@ -1,6 +1,5 @@
 -- `planner::is_retired` meets its contract.
 -- It looks at both sides, as `retired` does.
-use borrow.Author.Rules.{rules}
 use Rattle.planner.proofs.is_retired.Goals as goal
 
 pub returns : goal.returns

@@ -1,6 +1,5 @@
 -- `planner::is_unsupported` meets its contract.
 -- It compares what `unsupported` compares.
-use borrow.Author.Rules.{rules}
 use Rattle.planner.proofs.is_unsupported.Goals as goal
 
 pub returns : goal.returns

@@ -1,6 +1,5 @@
 -- `planner::plan` meets its contract.
 -- Each arm is a clause of `planned_of`.
-use borrow.Author.Rules.{rules}
 use Rattle.planner.proofs.plan.Goals as goal
 
 pub returns-in-IccProfile : goal.returns-in-IccProfile

@@ -1,7 +1,6 @@
 -- `planner::plan_enum` meets its contract.
 -- Each return follows the tests that led to it.
 use Rattle.planner.proofs.Building.{merged}
-use borrow.Author.Rules.{rules}
 use Rattle.planner.proofs.plan_enum.Goals as goal
 
 pub returns-then-is_out_of_range : goal.returns-then-is_out_of_range

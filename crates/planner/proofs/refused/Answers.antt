@@ -1,6 +1,5 @@
 -- `planner::refused` meets its contract.
 -- Its list is the empty one.
-use borrow.Author.Rules.{rules}
 use Rattle.planner.proofs.refused.Goals as goal
 
 pub returns : goal.returns

@@ -1,7 +1,6 @@
 -- `planner::unmerged` meets its contract.
 -- The ops of the stages, one after the other, are those of `stage_ops`.
 use Rattle.planner.proofs.Building.{in_order}
-use borrow.Author.Rules.{rules}
 use Rattle.planner.proofs.unmerged.Goals as goal
 
 pub returns : goal.returns

@@ -1,6 +1,5 @@
 -- `encoding::custom::custom_corners` meets its contract.
 -- Each arm is a clause of `custom_corners`.
-use borrow.Author.Rules.{rules}
 use Rattle.encoding.proofs.custom.custom_corners.Goals as goal
 
 pub returns-in-Srgb : goal.returns-in-Srgb

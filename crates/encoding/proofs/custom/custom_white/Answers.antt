@@ -1,6 +1,5 @@
 -- `encoding::custom::custom_white` meets its contract.
 -- Each arm is a clause of `custom_white`.
-use borrow.Author.Rules.{rules}
 use Rattle.encoding.proofs.custom.custom_white.Goals as goal
 
 pub returns-in-D65 : goal.returns-in-D65

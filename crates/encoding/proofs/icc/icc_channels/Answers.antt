@@ -1,7 +1,6 @@
 -- `encoding::icc::icc_channels` meets its contract.
 -- Each return follows the tests that led to it.
 use borrow.Author.Tests.{lt-ltb, le-ltb}
-use borrow.Author.Rules.{rules}
 use Rattle.encoding.proofs.icc.icc_channels.Goals as goal
 
 pub returns-then-profile-lt20 : goal.returns-then-profile-lt20

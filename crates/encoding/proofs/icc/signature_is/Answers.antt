@@ -9,7 +9,6 @@ use lib.Dec.{eqb}
 use lib.ListN.{length, take, drop, get_or}
 use lib.Seq.{drop-cons}
 use Rattle.encoding.specs.Icc.{signature_is}
-use borrow.Author.Rules.{rules}
 use Rattle.encoding.proofs.icc.signature_is.Goals as goal
 
 four : (s : List ℕ) → 20 ≤ length s → take 4 (drop 16 s) ≡ get_or s 16 0 ∷ get_or s 17 0 ∷ get_or s 18 0 ∷ get_or s 19 0 ∷ []

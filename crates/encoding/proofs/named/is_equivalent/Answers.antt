@@ -1,7 +1,5 @@
 -- `encoding::named::is_equivalent` meets its contract.
 -- Each return follows the tests that led to it.
-use borrow.Author.Tests.{not-true, not-false}
-use borrow.Author.Rules.{rules}
 use Rattle.encoding.proofs.named.is_equivalent.Goals as goal
 
 pub returns-then-not-same_colour_space : goal.returns-then-not-same_colour_space

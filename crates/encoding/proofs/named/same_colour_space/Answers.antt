@@ -1,6 +1,5 @@
 -- `encoding::named::same_colour_space` meets its contract.
 -- It compares the numbers that `same_space` compares.
-use borrow.Author.Rules.{rules}
 use Rattle.encoding.proofs.named.same_colour_space.Goals as goal
 
 pub returns : goal.returns

@@ -1,6 +1,5 @@
 -- `encoding::named::same_corners` meets its contract.
 -- It compares the points that `same_corners` compares.
-use borrow.Author.Rules.{rules}
 use Rattle.encoding.proofs.named.same_corners.Goals as goal
 
 pub returns : goal.returns

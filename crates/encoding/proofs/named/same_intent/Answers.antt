@@ -1,6 +1,5 @@
 -- `encoding::named::same_intent` meets its contract.
 -- It compares the numbers that `same_intent` compares.
-use borrow.Author.Rules.{rules}
 use Rattle.encoding.proofs.named.same_intent.Goals as goal
 
 pub returns : goal.returns

@@ -1,6 +1,5 @@
 -- `encoding::named::same_primaries` meets its contract.
 -- It compares what `same_primaries` compares.
-use borrow.Author.Rules.{rules}
 use Rattle.encoding.proofs.named.same_primaries.Goals as goal
 
 pub returns : goal.returns

@@ -1,6 +1,5 @@
 -- `encoding::named::same_rest` meets its contract.
 -- It compares the parts that `same_rest` compares.
-use borrow.Author.Rules.{rules}
 use Rattle.encoding.proofs.named.same_rest.Goals as goal
 
 pub returns : goal.returns

@@ -1,6 +1,5 @@
 -- `encoding::named::same_white_point` meets its contract.
 -- It compares what `same_white` compares.
-use borrow.Author.Rules.{rules}
 use Rattle.encoding.proofs.named.same_white_point.Goals as goal
 
 pub returns : goal.returns

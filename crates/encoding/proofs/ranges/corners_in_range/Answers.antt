@@ -1,6 +1,5 @@
 -- `encoding::ranges::corners_in_range` meets its contract.
 -- It looks at the points that `corners_in_range` looks at.
-use borrow.Author.Rules.{rules}
 use Rattle.encoding.proofs.ranges.corners_in_range.Goals as goal
 
 pub returns : goal.returns

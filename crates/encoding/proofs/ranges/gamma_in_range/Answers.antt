@@ -11,7 +11,6 @@ use Rattle.parts.specs.Curves.{gamma_of}
 use Rattle.op.specs.declared.Curve.{Curve}
 use Rattle.op.specs.declared.Curve.TheVariants as C
 use Rattle.encoding.specs.Ranges.{gamma_in_range}
-use borrow.Author.Rules.{rules}
 use Rattle.encoding.proofs.ranges.gamma_in_range.Goals as goal
 
 -- the variants but Gamma, by their places in the enum
@@ -30,4 +29,3 @@ no-gamma C.Hlg k = refl
 
 pub returns-in-Gamma : goal.returns-in-Gamma
 returns-in-Gamma c = rw c.in-Gamma.is
-

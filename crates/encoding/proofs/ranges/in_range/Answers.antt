@@ -1,6 +1,5 @@
 -- `encoding::ranges::in_range` meets its contract.
 -- It looks at the parts that `in_range` looks at.
-use borrow.Author.Rules.{rules}
 use Rattle.encoding.proofs.ranges.in_range.Goals as goal
 
 pub returns : goal.returns

@@ -1,9 +1,7 @@
 -- `stages::conversion::convert` meets its contract.
 -- The ops of its steps, one after the other, are those of `convert_ops`.
-use borrow.Author.Tests.{not-true, not-false}
 use Rattle.stages.specs.Stages.{limit_op, to_xyz_op, adapt_ops, from_xyz_op}
 use Rattle.stages.proofs.Appending.{around}
-use borrow.Author.Rules.{rules}
 use Rattle.stages.proofs.conversion.convert.Goals as goal
 
 pub returns-then-not-differs : goal.returns-then-not-differs

@@ -1,7 +1,5 @@
 -- `stages::conversion::converted` meets its contract.
 -- Each return follows the test that led to it.
-use borrow.Author.Tests.{not-true, not-false}
-use borrow.Author.Rules.{rules}
 use Rattle.stages.proofs.conversion.converted.Goals as goal
 
 pub returns-then-not-differs : goal.returns-then-not-differs

@@ -1,6 +1,5 @@
 -- `stages::conversion::differs` meets its contract.
 -- It compares what `differs` compares.
-use borrow.Author.Rules.{rules}
 use Rattle.stages.proofs.conversion.differs.Goals as goal
 
 pub returns : goal.returns

@@ -1,6 +1,5 @@
 -- `stages::conversion::from_xyz_op` meets its contract.
 -- Each return follows the test that led to it.
-use borrow.Author.Rules.{rules}
 use Rattle.stages.proofs.conversion.from_xyz_op.Goals as goal
 
 pub returns-then-same_colour_space : goal.returns-then-same_colour_space

@@ -1,6 +1,5 @@
 -- `stages::conversion::limit_op` meets its contract.
 -- Each return follows the test that led to it.
-use borrow.Author.Rules.{rules}
 use Rattle.stages.proofs.conversion.limit_op.Goals as goal
 
 pub returns-then-same_intent : goal.returns-then-same_intent

@@ -1,6 +1,5 @@
 -- `stages::curve::curve_intensity` meets its contract.
 -- Each return follows the test that led to it.
-use borrow.Author.Rules.{rules}
 use Rattle.stages.proofs.curve.curve_intensity.Goals as goal
 
 pub returns-then-is_pq_to_hlg : goal.returns-then-is_pq_to_hlg

@@ -1,6 +1,5 @@
 -- `stages::curve::target_curve` meets its contract.
 -- Each return follows the test that led to it.
-use borrow.Author.Rules.{rules}
 use Rattle.stages.proofs.curve.target_curve.Goals as goal
 
 pub returns-then-same_curve : goal.returns-then-same_curve

@@ -1,6 +1,5 @@
 -- `stages::decoding::decode` meets its contract.
 -- Each arm is a clause of `decode_from`.
-use borrow.Author.Rules.{rules}
 use Rattle.stages.proofs.decoding.decode.Goals as goal
 
 pub returns-in-Xyb : goal.returns-in-Xyb

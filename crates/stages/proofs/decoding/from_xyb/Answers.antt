@@ -1,7 +1,6 @@
 -- `stages::decoding::from_xyb` meets its contract.
 -- Its two pushes are the ops of `from_xyb`.
 use mathlib.Core.List.{[], ◌∷◌}
-use borrow.Author.Rules.{rules}
 use Rattle.list.proofs.Building.{appended-append}
 use Rattle.stages.proofs.decoding.from_xyb.Goals as goal
 

@@ -1,6 +1,5 @@
 -- `stages::decoding::inverse_curve` meets its contract.
 -- Its push is the op of `inverse_curve`.
-use borrow.Author.Rules.{rules}
 use Rattle.stages.proofs.decoding.inverse_curve.Goals as goal
 
 pub returns : goal.returns

@@ -1,7 +1,6 @@
 -- `stages::params::luminances_of` meets its contract.
 -- It takes the middle row of the matrix that `luminances_of` names.
 use Rattle.stages.specs.Stages.{luminances_of}
-use borrow.Author.Rules.{rules}
 use Rattle.stages.proofs.params.luminances_of.Goals as goal
 
 pub returns : goal.returns

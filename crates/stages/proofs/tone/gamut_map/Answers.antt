@@ -1,6 +1,5 @@
 -- `stages::tone::gamut_map` meets its contract.
 -- Each return follows the tests that led to it.
-use borrow.Author.Rules.{rules}
 use Rattle.stages.proofs.tone.gamut_map.Goals as goal
 
 pub returns-then-same_colour_space : goal.returns-then-same_colour_space

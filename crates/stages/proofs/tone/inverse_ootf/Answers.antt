@@ -1,7 +1,6 @@
 -- `stages::tone::inverse_ootf` meets its contract.
 -- Each return follows the test that led to it.
 use mathlib.Core.List.{[], ◌∷◌}
-use borrow.Author.Rules.{rules}
 use Rattle.list.proofs.Building.{appended-append}
 use Rattle.stages.proofs.tone.inverse_ootf.Goals as goal
 

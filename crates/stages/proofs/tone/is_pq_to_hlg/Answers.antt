@@ -1,6 +1,5 @@
 -- `stages::tone::is_pq_to_hlg` meets its contract.
 -- Its two tests are those of `is_pq_to_hlg`.
-use borrow.Author.Rules.{rules}
 use Rattle.stages.proofs.tone.is_pq_to_hlg.Goals as goal
 
 pub returns : goal.returns

@@ -1,10 +1,8 @@
 -- `stages::tone::pq_to_hlg` meets its contract.
 -- The ops of its steps, one after the other, are those of `pq_to_hlg_ops`.
-use borrow.Author.Tests.{not-true, not-false}
 use Rattle.notation.specs.F32.{bits}
 use Rattle.list.proofs.Building.{appended-append}
 use Rattle.stages.specs.Stages.{inverse_ootf_ops, gamut_map_ops}
-use borrow.Author.Rules.{rules}
 use Rattle.stages.proofs.tone.pq_to_hlg.Goals as goal
 
 pub returns-then-not-is_pq_to_hlg : goal.returns-then-not-is_pq_to_hlg

@@ -1,8 +1,6 @@
 -- `stages::tone::tone_map` meets its contract.
 -- Each return follows the test that led to it.
-use borrow.Author.Tests.{not-true, not-false}
 use mathlib.Core.List.{[], ◌∷◌}
-use borrow.Author.Rules.{rules}
 use Rattle.list.proofs.Building.{appended-append}
 use Rattle.stages.proofs.tone.tone_map.Goals as goal
 

@@ -1,6 +1,5 @@
 -- `stages::tone::tone_map_op` meets its contract.
 -- Each return follows the test that led to it.
-use borrow.Author.Rules.{rules}
 use Rattle.stages.proofs.tone.tone_map_op.Goals as goal
 
 pub returns-then-same_colour_space : goal.returns-then-same_colour_space
