@@ -1,5 +1,5 @@
 -- What each function does with the lists of the blocks that it is given. Definitions only.
-use Rattle.std.specs.Prelude.{ℕ, List, [], ◌∷◌, eqb, length}
+use Rattle.std.specs.Prelude.{ℕ, List, [], ◌∷◌, eqb}
 use Rattle.notation.specs.Choice.{when◌then◌else◌}
 use Rattle.notation.specs.declared.Answer.{Answer}
 use Rattle.list.specs.Answer as L

@@ -1,7 +1,6 @@
 -- `first_refusal` is the first block's answer where the reader refuses it, else the second's, else the verdict's.
 -- The tests in the code are those in the definition.
 use mathlib.Core.Path.{ap, sym, ◌∙◌}
-use borrow.Author.Rules.{rules}
 use borrow.Author.Tests.{eq-eqb, ne_eqb}
 use Rattle.notation.specs.declared.Answer.{Answer}
 use Rattle.c_plans.proofs.first_refusal.Goals as goal

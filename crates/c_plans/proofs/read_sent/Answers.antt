@@ -1,6 +1,5 @@
 -- `read_sent` meets its contract.
 -- By that of `paper`.
-use borrow.Author.Rules.{rules}
 use Rattle.c_plans.proofs.read_sent.Goals as goal
 
 pub returns : goal.returns

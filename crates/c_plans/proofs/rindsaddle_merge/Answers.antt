@@ -1,6 +1,5 @@
 -- `rindsaddle_merge` meets its contract.
 -- By what is read, merged and sent.
-use borrow.Author.Rules.{rules}
 use Rattle.c_plans.proofs.rindsaddle_merge.Goals as goal
 
 pub returns : goal.returns

@@ -1,6 +1,5 @@
 -- `rindsaddle_plan` meets its contract.
 -- By what the numbers mean, what is planned between it, and what is sent.
-use borrow.Author.Rules.{rules}
 use Rattle.c_plans.specs.Planned.{planned_from}
 use Rattle.c_plans.proofs.rindsaddle_plan.Goals as goal
 

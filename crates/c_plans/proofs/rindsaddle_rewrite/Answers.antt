@@ -1,6 +1,5 @@
 -- `rindsaddle_rewrite` meets its contract.
 -- By what is read and sent.
-use borrow.Author.Rules.{rules}
 use Rattle.c_plans.proofs.rindsaddle_rewrite.Goals as goal
 
 pub returns : goal.returns

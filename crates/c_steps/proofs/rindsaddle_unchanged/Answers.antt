@@ -1,7 +1,6 @@
 -- `rindsaddle_unchanged` answers the paper's number for what `unchanged_samples` answers.
 -- By the contracts of the functions that it calls.
 use mathlib.Core.Path.{ap, ◌∙◌}
-use borrow.Author.Rules.{rules}
 use Rattle.notation.specs.declared.Answer.{Answer}
 use Rattle.channels.specs.Stepping.{paper}
 use Rattle.c_steps.proofs.rindsaddle_unchanged.Goals as goal

@@ -1,6 +1,5 @@
 -- `planned::beside` meets its contract.
 -- Each arm is a clause of `beside`.
-use borrow.Author.Rules.{rules}
 use Rattle.c_plans.proofs.planned.beside.Goals as goal
 
 pub returns-in-IccProfile : goal.returns-in-IccProfile

@@ -1,6 +1,5 @@
 -- `planned::no_plan` meets its contract.
 -- By that of `empty`.
-use borrow.Author.Rules.{rules}
 use Rattle.c_plans.proofs.planned.no_plan.Goals as goal
 
 pub returns : goal.returns

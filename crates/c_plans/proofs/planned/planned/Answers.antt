@@ -1,6 +1,5 @@
 -- `planned::planned` meets its contract.
 -- Each arm is a clause of `planned_by`.
-use borrow.Author.Rules.{rules}
 use Rattle.c_plans.proofs.planned.planned.Goals as goal
 
 pub returns-in-Means-target : goal.returns-in-Means-target

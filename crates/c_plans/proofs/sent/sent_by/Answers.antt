@@ -1,7 +1,6 @@
 -- `sent::sent_by` meets its contract.
 -- The test in the code is the one in the definition.
 use mathlib.Core.Path.{ap, sym, ◌∙◌}
-use borrow.Author.Rules.{rules}
 use borrow.Author.Tests.{eq-eqb, ne_eqb}
 use Rattle.notation.specs.declared.Answer.{Answer}
 use Rattle.c_plans.specs.Sent.{refused}
