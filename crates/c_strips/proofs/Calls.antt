@@ -34,8 +34,8 @@ module _ (bytes : List ℕ) where
         ∙ ap (λ (n : ℕ). words_of n o.state.bad no_run) open-answered
         ∙ ap (λ (o : Opened). words_of (open_answer bytes).number o.state.bad no_run) opening-is
 
-    pub open_told : {t : List ℕ} → t ≡ told_by a 0 → t ≡ open_told bytes
-    open_told told = told ∙ ap (λ (a : Answer). told_by a 0) open_is
+    pub open-told : {t : List ℕ} → t ≡ told_by a 0 → t ≡ open_told bytes
+    open-told told = told ∙ ap (λ (a : Answer). told_by a 0) open_is
 
   -- a strip and a close of the run that the words stand for
   module _ (words : List ℕ) {z : State} (state : z ≡ state_of bytes words) {r : Stripped} {a : Answer} (answer : a ≡ Strips.paper r.answer) where
