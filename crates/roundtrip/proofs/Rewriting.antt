@@ -111,5 +111,4 @@ module _ (s : List ℕ) (b : AreBytes s) (e : paper (read_of s).answer ≡ answe
     -- the same block, and behind it the buffer as it was
     pub same_block : left_of (read_of s).plan (read_of s).version old ≡ take (read_of s).used s ++ drop (read_of s).used old
     same_block =
-        ap (λ (w : Writing). left_by w (block_of (read_of s).version (read_of s).plan) old) written-again
-        ∙ ap (λ (l : List ℕ). l ++ drop (read_of s).used old) same_bytes
+        rw (← same_bytes) (ap (λ (w : Writing). left_by w (block_of (read_of s).version (read_of s).plan) old) written-again)

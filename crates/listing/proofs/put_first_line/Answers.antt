@@ -1,6 +1,5 @@
 -- `put_first_line` meets its contract.
 -- Its two halves, one behind the other.
-use borrow.Author.Rules.{rules}
 use Rattle.notation.specs.Text.{ascii}
 use Rattle.listing.specs.Words.{counted, ending}
 use Rattle.buffer.proofs.Putting.{first, rest, both}

@@ -1,6 +1,5 @@
 -- `put_lines` meets its contract.
 -- The first line, and behind it the lines of the ops.
-use borrow.Author.Rules.{rules}
 use native.Mathlib.Omega.{arith}
 use Rattle.list.specs.Lists.{ops_of}
 use Rattle.listing.specs.Listing.{first_line, op_lines}

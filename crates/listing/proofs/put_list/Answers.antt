@@ -1,6 +1,5 @@
 -- `put_list` meets its contract.
 -- By the check's verdict, which each arm knows.
-use borrow.Author.Rules.{rules}
 use mathlib.Core.Path.{sym, ◌∙◌}
 use native.Mathlib.Omega.{arith}
 use Rattle.notation.specs.Text.{ascii}

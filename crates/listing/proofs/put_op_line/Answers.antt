@@ -1,6 +1,5 @@
 -- `put_op_line` meets its contract.
 -- Its four parts, each behind the one before it.
-use borrow.Author.Rules.{rules}
 use Prim.Native.Nat.{ℕ}
 use mathlib.Core.List.{List, ◌++◌}
 use Rattle.notation.specs.Text.{ascii}

@@ -1,14 +1,11 @@
 -- `put_op_lines` meets its contract.
 -- The invariant: what is left to put is the lines of the ops that remain.
-use Prim.Native.Nat.{◌-◌, ◌≤◌, ◌<◌}
+use Prim.Native.Nat.{◌-◌, ◌≤◌}
 use mathlib.Core.List.{map}
-use native.Mathlib.Omega.{arith}
-use borrow.Author.Rules.{rules}
-use lib.ListN.{take, drop, length}
+use lib.ListN.{take, drop}
 use Rattle.list.specs.Lists.{op_of}
 use Rattle.listing.specs.Listing.{op_lines}
-use Rattle.buffer.proofs.Putting.{Goes, begun, next, further}
-use Rattle.listing.proofs.Turning.{turn, last}
+use Rattle.buffer.proofs.Putting.{Goes}
 use Rattle.listing.proofs.put_op_lines.Given as goal
 
 abbrev pub invariant-loop-i : goal.invariant-loop-i

@@ -1,6 +1,5 @@
 -- `put_text` meets its contract.
 -- By the number of the reader's answer.
-use borrow.Author.Rules.{rules}
 use mathlib.Core.Path.{ap, sym, subst}
 use Rattle.notation.specs.declared.Answer.{Answer}
 use Rattle.block.specs.declared.Block.{Block}

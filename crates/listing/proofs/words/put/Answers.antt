@@ -1,6 +1,5 @@
 -- `words::put` meets its contract.
 -- There is room, so the bytes are put.
-use borrow.Author.Rules.{rules}
 use Rattle.buffer.proofs.Putting.{putting}
 use Rattle.listing.proofs.words.put.Goals as goal
 

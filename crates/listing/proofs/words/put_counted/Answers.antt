@@ -1,6 +1,5 @@
 -- `words::put_counted` meets its contract.
 -- The words, and behind them the number.
-use borrow.Author.Rules.{rules}
 use Rattle.listing.specs.Words.{decimal}
 use Rattle.buffer.proofs.Putting.{first, rest, both}
 use Rattle.listing.proofs.words.put_counted.Goals as goal

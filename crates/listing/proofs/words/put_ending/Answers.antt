@@ -1,6 +1,5 @@
 -- `words::put_ending` meets its contract.
 -- The words and the number, and behind them the line's end.
-use borrow.Author.Rules.{rules}
 use Rattle.notation.specs.Text.{ascii}
 use Rattle.buffer.proofs.Putting.{first, rest, both}
 use Rattle.listing.proofs.words.put_ending.Goals as goal

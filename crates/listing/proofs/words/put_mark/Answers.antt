@@ -2,7 +2,6 @@
 -- The word where the test holds, and nothing where it does not.
 use mathlib.Core.Path.{sym, ◌∙◌}
 use native.Mathlib.Omega.{arith}
-use borrow.Author.Rules.{rules}
 use Rattle.buffer.proofs.Putting.{none}
 use Rattle.listing.proofs.words.put_mark.Goals as goal
 

@@ -1,6 +1,5 @@
 -- `words::put_name` meets its contract.
 -- Each arm puts the name of its variant.
-use borrow.Author.Rules.{rules}
 use Rattle.listing.proofs.words.put_name.Goals as goal
 
 pub put-requires : goal.put-requires

@@ -1,6 +1,5 @@
 -- `words::put_number` meets its contract.
 -- One digit or two, by the test.
-use borrow.Author.Rules.{rules}
 use mathlib.Core.Path.{ap}
 use native.Mathlib.Omega.{arith}
 use lib.ListN.{length}

@@ -1,6 +1,5 @@
 -- `words::put_title` meets its contract.
 -- The name, and behind it the mark.
-use borrow.Author.Rules.{rules}
 use Rattle.listing.specs.Words.{name_of, mark_of}
 use Rattle.buffer.proofs.Putting.{first, rest, both}
 use Rattle.listing.proofs.words.put_title.Goals as goal
