@@ -1,7 +1,6 @@
 -- `end_told` meets its contract.
 -- The end width that is told is false where the version is 2 and the byte is not the list's, and there alone.
 use native.Mathlib.Omega.{arith}
-use borrow.Author.Rules.{rules}
 use Rattle.notation.proofs.Tests.{fails_exactly}
 use Rattle.block.specs.Fields.{byte_at}
 use Rattle.block.proofs.Versions.{eight, false-exactly}

@@ -1,6 +1,5 @@
 -- `head_of` meets its contract.
 -- By whether the version is 2.
-use borrow.Author.Rules.{rules}
 use borrow.Author.Tests.{ne_eqb}
 use Rattle.block.proofs.head_of.Goals as goal
 

@@ -2,7 +2,6 @@
 -- Each return is what `op_in` says of a slice that passes the tests before it (Front), of the fields that the kind has (Laid).
 use Prim.Native.Nat.{◌+◌, ◌-◌, ◌≤◌}
 use native.Mathlib.Omega.{arith}
-use borrow.Author.Rules.{rules}
 use lib.ListN.{length, take, drop, length-take, length-drop}
 use Rattle.parts.specs.Parts.{fields_of}
 use Rattle.block.specs.Fields.{bytes_of, byte_at}

@@ -1,12 +1,10 @@
 -- `read_ops` meets its contract.
 -- The invariant: what is read from here, put behind what is read already, is what the whole is.
 use Prim.Native.Nat.{◌-◌, ◌≤◌}
-use mathlib.Core.Path.{◌≡◌, ◌∙◌}
-use native.Mathlib.Omega.{arith}
-use borrow.Author.Rules.{rules}
+use mathlib.Core.Path.{◌≡◌}
 use lib.ListN.{length, drop}
 use Rattle.block.specs.Block.{head_of, ops_in, listed}
-use Rattle.block.proofs.Turn.{from, begun, Kept, begun_kept, pushed_kept, goes, fits, stops, ends}
+use Rattle.block.proofs.Turn.{from, Kept}
 use Rattle.block.proofs.read_ops.Given as goal
 
 abbrev pub invariant-loop-i : goal.invariant-loop-i

@@ -1,6 +1,5 @@
 -- `refused_by` meets its contract.
 -- The list is the empty one.
-use borrow.Author.Rules.{rules}
 use Rattle.block.proofs.refused_by.Goals as goal
 
 pub returns : goal.returns

@@ -6,7 +6,6 @@ use lib.ListN.{length, drop}
 use Rattle.block.specs.declared.Block.{Block}
 use Rattle.block.proofs.Walking.{to_end}
 use Rattle.block.proofs.Judging.{used-fits}
-use borrow.Author.Rules.{rules}
 use Rattle.block.proofs.rest.Goals as goal
 
 pub slice_bounds-result-count : goal.slice_bounds-result-count
@@ -19,7 +18,6 @@ slice_bounds-result-start c =
     let within : c.read-used.result.used ≤ length c.args.bytes.now = rw c.read-used.ensures (used-fits c.args.bytes.now) in
     within
 
-
 pub returns : goal.returns
 returns c =
     let b = c.args.bytes in
@@ -27,5 +25,3 @@ returns c =
       contents = to_end b.now c.read-used.result.used ∙ ap (λ (x : Block). drop x.used b.now) c.read-used.ensures;
       place = ap (λ (x : Block). (b.ref_ptr.0, x.used + b.ref_ptr.1)) c.read-used.ensures;
     }
-
-

@@ -1,6 +1,5 @@
 -- `right_mark` meets its contract.
 -- Byte by byte, and the version.
-use borrow.Author.Rules.{rules}
 use Rattle.block.proofs.right_mark.Goals as goal
 
 pub returns : goal.returns

@@ -1,6 +1,5 @@
 -- `paper` is `paper`.
 -- Each arm rewrites with the case that it took.
-use borrow.Author.Rules.{rules}
 use Rattle.writer.proofs.paper.Goals as goal
 
 pub returns-in-Done : goal.returns-in-Done

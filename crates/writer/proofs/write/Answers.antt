@@ -2,7 +2,6 @@
 -- Each return is what the tests before it say; what is put at last is the block that was laid out apart.
 use mathlib.Core.Path.{refl, ap}
 use mathlib.Core.Bool.{not}
-use borrow.Author.Rules.{rules}
 use Rattle.buffer.proofs.Putting.{listed}
 use Rattle.buffer.proofs.Within.{within, counts}
 use Rattle.writer.proofs.Answering.{malformed, formed, unknown, bad, retired, asks, short, done}
@@ -13,7 +12,6 @@ slice_bounds-block-end c = within (listed c.put_block-used.ensures)
 
 pub slice_bounds-put-end : goal.slice_bounds-put-end
 slice_bounds-put-end c = counts (listed c.put_block-used.ensures)
-
 
 pub returns-then-not-lawful : goal.returns-then-not-lawful
 returns-then-not-lawful c =
@@ -66,5 +64,3 @@ returns c =
     let a = c.args in
     let e = done a.plan a.version a.bytes.now c.lawful.ensures (ap not c.if-not-lawful.false) c.known_version.ensures (ap not c.if-not-known_version.false) c.any_op.ensures c.if-any_op.false c.any_op-2.ensures c.if-any_op-2.false c.put_block-used.ensures c.if-bytes-used.false c.put.ensures.value c.put.ensures.out_after in
     record { value = e.0; bytes_after = e.1 }
-
-

@@ -1,6 +1,6 @@
 -- `fields::any_bad` meets its contract.
 -- The invariant: of the fields that are left, from here on, one is bad exactly where one of all is.
-use Prim.Native.Nat.{◌+◌, ◌-◌, ◌≤◌}
+use Prim.Native.Nat.{◌+◌}
 use mathlib.Core.Path.{◌≡◌, refl, ◌∙◌}
 use native.Mathlib.Omega.{arith}
 use borrow.Author.Rules.{rules}
@@ -8,7 +8,6 @@ use lib.ListN.{drop}
 use Rattle.parts.specs.Parts.{field_in}
 use Rattle.parts.proofs.Below.{none_below}
 use Rattle.block.specs.Fields.{bytes_of}
-use Rattle.block.specs.BadFields.{any_bad}
 use Rattle.block.proofs.Walking.{fields_below, bytes_next, bad-next, bad-here, room}
 use Rattle.block.proofs.fields.any_bad.Goals as goal
 
@@ -77,5 +76,3 @@ loop-i-preserved c =
       counted,
       bad-next a.count a.cells v.i v.at t (search rules) c.size_of-at.ensures a.s.now c.is_bad.ensures c.if-is_bad.false ∙ v.invariant.2,
     )
-
-

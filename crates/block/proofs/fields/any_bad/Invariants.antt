@@ -1,15 +1,11 @@
 -- `fields::any_bad` meets its contract.
 -- The invariant: of the fields that are left, from here on, one is bad exactly where one of all is.
 use Prim.Native.Nat.{◌+◌, ◌-◌, ◌≤◌}
-use mathlib.Core.Path.{◌≡◌, refl, ◌∙◌}
-use native.Mathlib.Omega.{arith}
-use borrow.Author.Rules.{rules}
+use mathlib.Core.Path.{◌≡◌}
 use lib.ListN.{drop}
-use Rattle.parts.specs.Parts.{field_in}
-use Rattle.parts.proofs.Below.{none_below}
 use Rattle.block.specs.Fields.{bytes_of}
 use Rattle.block.specs.BadFields.{any_bad}
-use Rattle.block.proofs.Walking.{fields_below, bytes_next, bad-next, bad-here, room}
+use Rattle.block.proofs.Walking.{fields_below}
 use Rattle.block.proofs.fields.any_bad.Given as goal
 
 abbrev pub invariant-loop-i : goal.invariant-loop-i

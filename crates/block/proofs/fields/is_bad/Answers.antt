@@ -2,7 +2,6 @@
 -- Each arm is a clause of `is_bad`, once the field is known; a float that differs from itself is a NaN.
 use native.Mathlib.Omega.{arith}
 use Rattle.binary32.proofs.Nan.{nan_test}
-use borrow.Author.Rules.{rules}
 use Rattle.block.proofs.fields.is_bad.Goals as goal
 
 pub first_float-x-requires : goal.first_float-x-requires

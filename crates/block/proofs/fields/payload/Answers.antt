@@ -1,6 +1,6 @@
 -- `fields::payload` meets its contract.
 -- The invariant: the bytes of the fields that are left, with those counted already, are the bytes of all.
-use Prim.Native.Nat.{◌+◌, ◌-◌, ◌≤◌}
+use Prim.Native.Nat.{◌+◌}
 use mathlib.Core.Path.{◌≡◌}
 use native.Mathlib.Omega.{arith}
 use borrow.Author.Rules.{rules}
@@ -50,5 +50,3 @@ loop-i-preserved c =
     let a = c.args in
     bytes_next a.count a.cells v.i v.size c.loop-i-test.true (search rules) c.size_of-size.ensures v.invariant.1 in
     (omega arith, counted)
-
-

@@ -2,13 +2,9 @@
 -- The invariant: the bytes of the fields that are left, with those counted already, are the bytes of all.
 use Prim.Native.Nat.{◌+◌, ◌-◌, ◌≤◌}
 use mathlib.Core.Path.{◌≡◌}
-use native.Mathlib.Omega.{arith}
-use borrow.Author.Rules.{rules}
-use lib.ListN.{take, drop, length-map, length-take}
-use Rattle.parts.specs.Parts.{field_in}
-use Rattle.parts.proofs.Below.{none_below}
+use lib.ListN.{drop}
 use Rattle.block.specs.Fields.{bytes_of}
-use Rattle.block.proofs.Walking.{bytes_small, fields_below, bytes_next}
+use Rattle.block.proofs.Walking.{fields_below}
 use Rattle.block.proofs.fields.payload.Given as goal
 
 abbrev pub invariant-loop-i : goal.invariant-loop-i

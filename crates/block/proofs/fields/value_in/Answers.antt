@@ -1,7 +1,6 @@
 -- `fields::value_in` meets its contract.
 -- Each arm is a clause of `value_in`, once the field is known.
 use native.Mathlib.Omega.{arith}
-use borrow.Author.Rules.{rules}
 use Rattle.block.proofs.fields.value_in.Goals as goal
 
 pub first_float-requires : goal.first_float-requires

@@ -1,14 +1,14 @@
 -- `fields::values_in` meets its contract.
 -- The invariant: the values read already, and those of the fields that are left, are the values of all.
-use Prim.Native.Nat.{◌+◌, ◌-◌, ◌≤◌}
+use Prim.Native.Nat.{◌+◌}
 use mathlib.Core.Path.{◌≡◌, refl, sym, ◌∙◌}
-use mathlib.Core.List.{◌++◌, map, append-nil}
+use mathlib.Core.List.{map, append-nil}
 use native.Mathlib.Omega.{arith}
 use borrow.Author.Rules.{rules}
-use lib.ListN.{length, take, drop, length-set}
+use lib.ListN.{take, drop, length-set}
 use Rattle.parts.specs.Parts.{value_of, field_in}
 use Rattle.parts.proofs.Below.{none_below}
-use Rattle.block.specs.Fields.{bytes_of, values_in}
+use Rattle.block.specs.Fields.{bytes_of}
 use Rattle.block.proofs.Walking.{fields_below, bytes_next, stored, room}
 use Rattle.block.proofs.fields.values_in.Goals as goal
 
@@ -80,5 +80,3 @@ loop-i-preserved c =
       counted,
       stored a.count a.blanks v.i v.at t (search rules) c.size_of-at.ensures a.s.now v.cells (omega arith) c.value_in.ensures v.invariant.3,
     )
-
-

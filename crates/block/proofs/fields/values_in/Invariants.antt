@@ -1,15 +1,12 @@
 -- `fields::values_in` meets its contract.
 -- The invariant: the values read already, and those of the fields that are left, are the values of all.
 use Prim.Native.Nat.{◌+◌, ◌-◌, ◌≤◌}
-use mathlib.Core.Path.{◌≡◌, refl, sym, ◌∙◌}
-use mathlib.Core.List.{◌++◌, map, append-nil}
-use native.Mathlib.Omega.{arith}
-use borrow.Author.Rules.{rules}
-use lib.ListN.{length, take, drop, length-set}
-use Rattle.parts.specs.Parts.{value_of, field_in}
-use Rattle.parts.proofs.Below.{none_below}
+use mathlib.Core.Path.{◌≡◌}
+use mathlib.Core.List.{◌++◌, map}
+use lib.ListN.{length, take, drop}
+use Rattle.parts.specs.Parts.{value_of}
 use Rattle.block.specs.Fields.{bytes_of, values_in}
-use Rattle.block.proofs.Walking.{fields_below, bytes_next, stored, room}
+use Rattle.block.proofs.Walking.{fields_below}
 use Rattle.block.proofs.fields.values_in.Given as goal
 
 abbrev pub invariant-loop-i : goal.invariant-loop-i

@@ -1,14 +1,13 @@
 -- `faults::any_op` meets its contract.
 -- The invariant: the ops that remain are searched as all are.
-use Prim.Native.Nat.{◌-◌, ◌≤◌, ◌<◌}
-use mathlib.Core.Path.{◌≡◌, refl}
+use Prim.Native.Nat.{◌<◌}
+use mathlib.Core.Path.{refl}
 use native.Mathlib.Omega.{arith}
 use borrow.Author.Rules.{rules}
-use lib.ListN.{length, drop}
-use Rattle.notation.specs.Several.{any}
+use lib.ListN.{length}
 use Rattle.list.specs.Lists.{op_of}
 use Rattle.writer.specs.Steps.{has_fault}
-use Rattle.writer.proofs.Walking.{below, found, goes_on, not_found}
+use Rattle.writer.proofs.Walking.{found, goes_on, not_found}
 use Rattle.writer.proofs.faults.any_op.Goals as goal
 
 pub loop-i-init : goal.loop-i-init

@@ -1,14 +1,12 @@
 -- `faults::any_op` meets its contract.
 -- The invariant: the ops that remain are searched as all are.
-use Prim.Native.Nat.{◌-◌, ◌≤◌, ◌<◌}
-use mathlib.Core.Path.{◌≡◌, refl}
-use native.Mathlib.Omega.{arith}
-use borrow.Author.Rules.{rules}
-use lib.ListN.{length, drop}
+use Prim.Native.Nat.{◌-◌, ◌≤◌}
+use mathlib.Core.Path.{◌≡◌}
+use lib.ListN.{drop}
 use Rattle.notation.specs.Several.{any}
 use Rattle.list.specs.Lists.{op_of}
 use Rattle.writer.specs.Steps.{has_fault}
-use Rattle.writer.proofs.Walking.{below, found, goes_on, not_found}
+use Rattle.writer.proofs.Walking.{below}
 use Rattle.writer.proofs.faults.any_op.Given as goal
 
 abbrev pub invariant-loop-i : goal.invariant-loop-i

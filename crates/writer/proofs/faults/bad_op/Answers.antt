@@ -1,7 +1,6 @@
 -- `faults::bad_op` meets its contract.
 -- The values in the cells are those of the op.
 use mathlib.Core.Path.{ap}
-use borrow.Author.Rules.{rules}
 use Rattle.notation.specs.Several.{any}
 use Rattle.writer.specs.Writing.{bad_value}
 use Rattle.writer.proofs.Cells.{values_in_lem, few_values}

@@ -1,7 +1,6 @@
 -- `faults::bad_value` meets its contract.
 -- Each arm is a clause of `bad_value`, once the value is known to be its variant; a float that differs from itself is a NaN.
 use mathlib.Core.Path.{sym, ap, ◌∙◌}
-use borrow.Author.Rules.{rules}
 use Rattle.binary32.proofs.Nan.{nan_test}
 use Rattle.writer.specs.Writing.{bad_value}
 use Rattle.writer.proofs.faults.bad_value.Goals as goal

@@ -1,14 +1,12 @@
 -- `faults::bad_values` meets its contract.
 -- The invariant: the values that remain are searched as all are.
-use Prim.Native.Nat.{◌-◌, ◌≤◌, ◌<◌}
-use mathlib.Core.Path.{◌≡◌, refl}
-use native.Mathlib.Omega.{arith}
-use borrow.Author.Rules.{rules}
-use lib.ListN.{length, drop}
+use Prim.Native.Nat.{◌-◌, ◌≤◌}
+use mathlib.Core.Path.{◌≡◌}
+use lib.ListN.{drop}
 use Rattle.notation.specs.Several.{any}
 use Rattle.parts.specs.Parts.{value_of}
 use Rattle.writer.specs.Writing.{bad_value}
-use Rattle.writer.proofs.Walking.{below, found, goes_on, not_found}
+use Rattle.writer.proofs.Walking.{below}
 use Rattle.writer.proofs.faults.bad_values.Given as goal
 
 abbrev pub invariant-loop-i : goal.invariant-loop-i

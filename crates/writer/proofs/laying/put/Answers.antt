@@ -1,8 +1,6 @@
 -- `laying::put` meets its contract.
 -- There is room, so the bytes are put.
-use borrow.Author.Rules.{rules}
 use Rattle.buffer.proofs.Putting.{putting}
-
 use Rattle.writer.proofs.laying.put.Goals as goal
 
 pub returns : goal.returns
@@ -10,5 +8,3 @@ returns c =
     let p = c in
     let z = p in
     putting z.args.out.now z.args.at z.args.part.now z.requires p.put.ensures.value p.put.ensures.out_after
-
-

@@ -1,10 +1,8 @@
 -- `laying::put_block` meets its contract.
 -- The head, and behind it the ops.
-use borrow.Author.Rules.{rules}
 use Rattle.list.specs.Lists.{ops_of}
 use Rattle.buffer.proofs.Putting.{first, rest, both}
 use Rattle.writer.specs.Bytes.{joined, op_bytes, head_bytes}
-
 use Rattle.writer.proofs.laying.put_block.Goals as goal
 
 pub put_head-next-requires : goal.put_head-next-requires
@@ -27,5 +25,3 @@ returns c =
     let z = h in
     let p = z.args.plan in
     both (head_bytes z.args.version p) (joined op_bytes (ops_of p)) z.requires.room h.put_head-next.ensures q.put_ops.ensures
-
-

@@ -1,7 +1,6 @@
 -- `laying::put_curve` meets its contract.
 -- The number, and behind it `g`.
 use mathlib.Core.List.{[], ◌∷◌}
-use borrow.Author.Rules.{rules}
 use Rattle.parts.specs.Curves.{curve_number, gamma_of}
 use Rattle.buffer.proofs.Putting.{both}
 use Rattle.writer.specs.Bytes.{u32_bytes}

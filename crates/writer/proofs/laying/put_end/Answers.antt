@@ -1,7 +1,6 @@
 -- `laying::put_end` meets its contract.
 -- Where the version is 2 the end width is put, and else nothing.
 use native.Mathlib.Omega.{arith}
-use borrow.Author.Rules.{rules}
 use borrow.Author.Tests.{ne_eqb}
 use Rattle.buffer.proofs.Putting.{none}
 use Rattle.writer.proofs.laying.put_end.Goals as goal

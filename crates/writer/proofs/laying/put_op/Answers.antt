@@ -4,7 +4,6 @@ use Prim.Native.Nat.{ℕ, ◌≤◌}
 use mathlib.Core.Path.{◌≡◌}
 use mathlib.Core.Bool.{false}
 use mathlib.Core.List.{List, [], ◌∷◌, map}
-use borrow.Author.Rules.{rules}
 use lib.ListN.{take}
 use Rattle.notation.specs.Several.{any}
 use Rattle.op.specs.declared.Op.{Op}
@@ -15,7 +14,6 @@ use Rattle.buffer.proofs.Putting.{rest, both}
 use Rattle.writer.specs.Bytes.{joined, value_bytes, op_bytes}
 use Rattle.writer.specs.Writing.{bad_value, bad_op}
 use Rattle.writer.proofs.Cells.{values_in_lem, few_values}
-
 use Rattle.writer.proofs.laying.put_op.Goals as goal
 
 module _ (o : Op) {r : Parts} (e : r ≡ parts_of o) {old : List ℕ} {at : ℕ} (room : Room old at (op_bytes o)) {mid : List ℕ} {m : ℕ} (kind : Put old at (r.kind ∷ []) mid m) where
@@ -31,7 +29,6 @@ module _ (o : Op) {r : Parts} (e : r ≡ parts_of o) {old : List ℕ} {at : ℕ}
   gives : {new : List ℕ} {q : ℕ} → Put mid m (joined value_bytes (map value_of (take r.count r.cells))) new q → Put old at (op_bytes o) new q
   gives p = both (kind_of o ∷ []) (joined value_bytes (values_of o)) room number (rw filled at p)
 
-
 pub put_values-requires : goal.put_values-requires
 put_values-requires c =
     let k = c in
@@ -45,5 +42,3 @@ returns c =
     let k = v in
     let z = k in
     gives z.args.op k.parts_of-parts.ensures z.requires.room k.put-next.ensures v.put_values.ensures
-
-

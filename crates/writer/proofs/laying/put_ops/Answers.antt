@@ -1,13 +1,13 @@
 -- `laying::put_ops` meets its contract.
 -- The invariant: what is left to put is the bytes of the ops that remain, and none of these is bad.
-use Prim.Native.Nat.{◌-◌, ◌≤◌, ◌<◌}
+use Prim.Native.Nat.{◌<◌}
 use native.Mathlib.Omega.{arith}
 use borrow.Author.Rules.{rules}
 use lib.ListN.{length}
 use Rattle.list.specs.Lists.{op_of}
 use Rattle.writer.specs.Bytes.{op_bytes}
 use Rattle.writer.specs.Writing.{bad_op}
-use Rattle.writer.proofs.Walking.{Going, starts, ends, room, fine, again}
+use Rattle.writer.proofs.Walking.{starts, ends, room, fine, again}
 use Rattle.writer.proofs.laying.put_ops.Goals as goal
 
 pub offset_bounds-slots-i : goal.offset_bounds-slots-i
@@ -48,5 +48,3 @@ put_op-next-requires c =
     let t = c.loop-i-test.true in
     let k : l.loop-i.i < length a.slots = search rules in
     record { room = room op_of a.count a.slots op_bytes bad_op l.loop-i.i _ l.loop-i.invariant.1 t k; op_value = fine op_of a.count a.slots op_bytes bad_op l.loop-i.i _ l.loop-i.invariant.1 t k }
-
-

@@ -1,13 +1,10 @@
 -- `laying::put_ops` meets its contract.
 -- The invariant: what is left to put is the bytes of the ops that remain, and none of these is bad.
-use Prim.Native.Nat.{◌-◌, ◌≤◌, ◌<◌}
-use native.Mathlib.Omega.{arith}
-use borrow.Author.Rules.{rules}
-use lib.ListN.{length}
+use Prim.Native.Nat.{◌-◌, ◌≤◌}
 use Rattle.list.specs.Lists.{op_of}
 use Rattle.writer.specs.Bytes.{op_bytes}
 use Rattle.writer.specs.Writing.{bad_op}
-use Rattle.writer.proofs.Walking.{Going, starts, ends, room, fine, again}
+use Rattle.writer.proofs.Walking.{Going}
 use Rattle.writer.proofs.laying.put_ops.Given as goal
 
 abbrev pub invariant-loop-i : goal.invariant-loop-i

@@ -5,7 +5,6 @@ use mathlib.Core.Bool.{Bool, true, false, not}
 use native.Mathlib.Omega.{arith}
 use lib.Dec.{T}
 use mir.Val.{bool_byte}
-use borrow.Author.Rules.{rules}
 use Rattle.notation.specs.Choice.{when◌then◌else◌}
 use Rattle.writer.proofs.laying.put_value.Goals as goal
 
@@ -33,5 +32,3 @@ put-requires c = record { enough = omega (arith, rw c.in-Flag.is at c.requires.r
 
 pub put_curve-requires : goal.put_curve-requires
 put_curve-requires c = rw c.in-Curve.is at c.requires.room
-
-

@@ -1,13 +1,13 @@
 -- `laying::put_values` meets its contract.
 -- The invariant: what is left to put is the bytes of the values that remain, and none of these is bad.
-use Prim.Native.Nat.{◌-◌, ◌≤◌, ◌<◌}
+use Prim.Native.Nat.{◌<◌}
 use native.Mathlib.Omega.{arith}
 use borrow.Author.Rules.{rules}
 use lib.ListN.{length}
 use Rattle.parts.specs.Parts.{value_of}
 use Rattle.writer.specs.Bytes.{value_bytes}
 use Rattle.writer.specs.Writing.{bad_value}
-use Rattle.writer.proofs.Walking.{Going, starts, ends, room, fine, again}
+use Rattle.writer.proofs.Walking.{starts, ends, room, fine, again}
 use Rattle.writer.proofs.laying.put_values.Goals as goal
 
 pub offset_bounds-cells-i : goal.offset_bounds-cells-i
@@ -48,5 +48,3 @@ put_value-next-requires c =
     let t = c.loop-i-test.true in
     let k : l.loop-i.i < length a.cells = search rules in
     record { room = room value_of a.count a.cells value_bytes bad_value l.loop-i.i _ l.loop-i.invariant.1 t k; value_value = fine value_of a.count a.cells value_bytes bad_value l.loop-i.i _ l.loop-i.invariant.1 t k }
-
-
