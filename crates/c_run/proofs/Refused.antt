@@ -12,7 +12,6 @@ use Rattle.block.specs.Block as Block
 use Rattle.block.specs.Block.{read_of}
 use Rattle.block.specs.declared.Block as Read
 use Rattle.block.specs.declared.Reading.{Reading}
-use Rattle.block.specs.declared.Reading.TheVariants as Reading
 use Rattle.block.proofs.Exactly.{refused-gives-nothing}
 use Rattle.run.specs.Refusals as Run
 use Rattle.run.specs.Refusals.{outcome_of}

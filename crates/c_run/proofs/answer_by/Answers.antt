@@ -1,7 +1,6 @@
 -- `answer_by` is the reader's answer where it refuses, and else the run's.
 -- By the numbers of both; the test in the code is the test in the definition.
 use mathlib.Core.Path.{sym, ap, ◌∙◌}
-use borrow.Author.Rules.{rules}
 use borrow.Author.Tests.{eq-eqb, ne_eqb}
 use Rattle.notation.specs.declared.Answer.{Answer}
 use Rattle.c_run.proofs.answer_by.Goals as goal

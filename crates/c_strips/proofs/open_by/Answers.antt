@@ -1,7 +1,6 @@
 -- `open_by` is the reader's answer where it refuses, and else the opening's.
 -- The test in the code is the one in the definition.
 use mathlib.Core.Path.{ap, sym, ◌∙◌}
-use borrow.Author.Rules.{rules}
 use borrow.Author.Tests.{eq-eqb, ne_eqb}
 use Rattle.notation.specs.declared.Answer.{Answer}
 use Rattle.c_strips.proofs.open_by.Goals as goal

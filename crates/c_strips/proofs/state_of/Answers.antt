@@ -1,6 +1,5 @@
 -- `state_of` meets its contract.
 -- The test in the code is the one in the definition.
-use borrow.Author.Rules.{rules}
 use borrow.Author.Tests.{eq-eqb, ne_eqb}
 use Rattle.c_strips.proofs.state_of.Goals as goal
 
