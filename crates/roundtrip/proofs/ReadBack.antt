@@ -1,7 +1,7 @@
 -- "Reading what was written returns the same list and the rest behind it" (W3), in either version, whatever bytes follow, and the rest is those,
 -- in their place. What stands at the front of the buffer is the block, and the reader makes of it the list (Laid).
 use Prim.Native.Nat.{ℕ, ◌+◌}
-use mathlib.Core.Path.{◌≡◌, refl, ap, ◌∙◌}
+use mathlib.Core.Path.{◌≡◌, refl, sym, ap, ◌∙◌}
 use mathlib.Core.Bool.{true}
 use mathlib.Core.List.{List, ◌++◌}
 use denote.Ref.{Bor}
@@ -58,5 +58,5 @@ module _ (p : Plan) (y : Typed p) (v : ℕ) (old : List ℕ) (e : paper (writing
   -- "and the rest behind it": those bytes, in their place in the reader's slice
   pub rest-in-place : (bytes rest : Bor (List ℕ)) → bytes.now ≡ sent → RestOf bytes rest → (rest.now ≡ t) × (rest.ref_ptr ≡ (bytes.ref_ptr.0, used + bytes.ref_ptr.1))
   rest-in-place bytes rest f r =
-      let u : (read_of bytes.now).used ≡ used = ap (λ (s : List ℕ). (read_of s).used) f ∙ ap (λ (b : Block). b.used) read_back in
+      let u : (read_of bytes.now).used ≡ used = ap (λ (s : List ℕ). (read_of s).used) f ∙ ap (λ (b : Block). b.used) is-read-back ∙ sym is-long in
       (r.contents ∙ rw (u, f, is-sent, is-long) (drop_at (block_of v p) t (length (block_of v p)) refl), r.place ∙ rw u)

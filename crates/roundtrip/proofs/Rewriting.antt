@@ -78,12 +78,15 @@ module _ (s : List ℕ) (b : AreBytes s) where
       ∙ sym (take-add h n s)
 
 module _ (s : List ℕ) (b : AreBytes s) (e : paper (read_of s).answer ≡ answer 0 0 0) where
-  -- the bytes of the list, in the block's own version, are the block's
-  pub same_bytes : block_of (read_of s).version (read_of s).plan ≡ take (read_of s).used s
-  same_bytes =
+  rewritten : block_of (read_of s).version (read_of s).plan ≡ take (read_of s).used s
+  rewritten =
       let w = (exactly s Read.Done).0 e in
       let d = is-done s w.0 w.1.all w.2 in
       ap (λ (x : Block). block_of x.version x.plan) d ∙ again s b w.0 w.1.all w.2 ∙ sym (ap (λ (x : Block). take x.used s) d)
+
+  -- the bytes of the list, in the block's own version, are the block's
+  pub same_bytes : block_of (read_of s).version (read_of s).plan ≡ take (read_of s).used s
+  same_bytes = rewritten
 
   known : Known (read_of s).version
   known =
@@ -98,7 +101,7 @@ module _ (s : List ℕ) (b : AreBytes s) (e : paper (read_of s).answer ≡ answe
       ∙ (ops-written (bytes_drop (head_of (version_of s)) s b) w.1.all).good
 
   long : length (block_of (read_of s).version (read_of s).plan) ≡ (read_of s).used
-  long = ap length same_bytes ∙ omega (arith, length-take (read_of s).used s, used-fits s)
+  long = ap length rewritten ∙ omega (arith, length-take (read_of s).used s, used-fits s)
 
   module _ (no-retired : ¬ RetiredList (read_of s).plan) (old : List ℕ) (room : (read_of s).used ≤ length old) where
     -- it is written, with the length that was read
@@ -111,4 +114,4 @@ module _ (s : List ℕ) (b : AreBytes s) (e : paper (read_of s).answer ≡ answe
     -- the same block, and behind it the buffer as it was
     pub same_block : left_of (read_of s).plan (read_of s).version old ≡ take (read_of s).used s ++ drop (read_of s).used old
     same_block =
-        rw (← same_bytes) (ap (λ (w : Writing). left_by w (block_of (read_of s).version (read_of s).plan) old) written-again)
+        rw (← rewritten) (ap (λ (w : Writing). left_by w (block_of (read_of s).version (read_of s).plan) old) written-again)
