@@ -7,8 +7,9 @@ mod turned;
 ghost use Rattle.std.specs.Prelude.{◌≡◌, ◌+◌, ◌≤◌, ◌<◌, IfOk, length};
 
 use pfm::Numbers;
-use std::fs::File;
+use std::fs::{File, OpenOptions};
 use std::io::ErrorKind;
+use std::os::unix::fs::OpenOptionsExt;
 use std::{fs, io, process};
 
 // How far the picture is: how many bytes the input holds at its front, how many pixels are left, and that nothing was refused.
@@ -94,9 +95,11 @@ fn filed(
 // A file of no name, for the time that the program runs. Its name is this process's, and a number that no file has yet.
 fn a_file(rt: &HostRuntime) -> io::Result<File> {
     let id = process::id(rt.process());
+    let mut how = OpenOptions::new();
+    how.read(true).write(true).create_new(true).mode(0o600);
     for n in 0..u8::MAX {
         let name = format!(in rt.alloc(); "/tmp/planshow-{id}-{n}")?;
-        match File::create_new(rt, &name) {
+        match how.open(rt, &name) {
             Ok(file) => {
                 fs::remove_file(rt, &name)?;
                 return Ok(file);

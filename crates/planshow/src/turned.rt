@@ -3,21 +3,21 @@ ghost use Rattle.std.specs.Prelude.{◌+◌, ◌≤◌, ◌<◌};
 
 use std::fs::File;
 use std::io;
-use std::io::{ErrorKind, Read, Seek, SeekFrom};
+use std::io::ErrorKind;
+use std::os::unix::fs::FileExt;
 
 // No file has more pixels: an offset is below 2^63.
 const MOST: u64 = 3_074_457_345_618_258_602;
 
 // This part of a file, from this place on, by way of the room for it.
-fn copied(rt: &HostRuntime, file: &mut File, at: u64, part: &mut [u8]) -> io::Result<()>
+fn copied(rt: &HostRuntime, file: &File, at: u64, part: &mut [u8]) -> io::Result<()>
     requires { at ≤ 9223372036854775807 }
 {
-    file.seek(SeekFrom::Start(at))?;
-    file.read_exact(part)?;
+    file.read_exact_at(part, at)?;
     rt.write_all(part)
 }
 
-fn put_piece(rt: &HostRuntime, file: &mut File, at: u64, n: usize) -> io::Result<()>
+fn put_piece(rt: &HostRuntime, file: &File, at: u64, n: usize) -> io::Result<()>
     requires { (n ≤ 65536) × (at ≤ 9223372036854775807) }
 {
     let mut piece = pictures::channel_bytes();
@@ -35,7 +35,7 @@ fn piece_of(left: u64) -> usize
 }
 
 // So many bytes of a file from a place on, piece by piece.
-fn put_part(rt: &HostRuntime, file: &mut File, from: u64, count: u64) -> io::Result<()>
+fn put_part(rt: &HostRuntime, file: &File, from: u64, count: u64) -> io::Result<()>
     requires { from + count ≤ 9223372036854775807 }
 {
     let mut at = from;
@@ -49,12 +49,7 @@ fn put_part(rt: &HostRuntime, file: &mut File, from: u64, count: u64) -> io::Res
     Ok(())
 }
 
-pub(crate) fn put_lines(
-    rt: &HostRuntime,
-    width: u32,
-    height: u32,
-    file: &mut File,
-) -> io::Result<()> {
+pub(crate) fn put_lines(rt: &HostRuntime, width: u32, height: u32, file: &File) -> io::Result<()> {
     let all = pictures::pixels_of(width, height);
     if MOST < all {
         return Err(io::Error::from(ErrorKind::FileTooLarge));
