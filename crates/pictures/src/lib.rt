@@ -5,7 +5,6 @@ ghost use Rattle.std.specs.Prelude.{◌≡◌, ◌+◌, ◌≤◌, ◌<◌, IfOk
 
 use pfm::Stage;
 use std::io;
-use std::io::Read;
 use std::rt::Files;
 
 pub fn pixels_of(width: u32, height: u32) -> u64 {
@@ -85,24 +84,8 @@ pub fn filled(rt: &impl Input, input: &mut [u8], held: usize, want: usize) -> io
     if want <= held {
         return Ok(held);
     }
-    let came = read_full(rt, &mut input[held..want])?;
+    let came = saying::read_full(rt, &mut input[held..want])?;
     Ok(held + came)
-}
-
-// Reads until the room is full or the input ends; how many bytes came.
-fn read_full(rt: &impl Input, room: &mut [u8]) -> io::Result<usize>
-    ensures { IfOk result (λ n. n ≤ length room.new) }
-{
-    let mut input = rt.reader();
-    let mut done: usize = 0;
-    while done < room.len() {
-        let n = input.read(&mut room[done..])?;
-        if n == 0 {
-            break;
-        }
-        done += n;
-    }
-    Ok(done)
 }
 
 pub fn is_done(stage: Stage) -> bool {
@@ -131,7 +114,7 @@ pub fn header_refused(rt: &(impl Eprint + Files), program: &str, stage: Stage) -
 pub fn at_end(rt: &impl Input, extra: usize) -> io::Result<bool> {
     let mut more = [0u8; 1];
     if extra == 0 {
-        let came = read_full(rt, &mut more)?;
+        let came = saying::read_full(rt, &mut more)?;
         return Ok(came == 0);
     }
     Ok(false)

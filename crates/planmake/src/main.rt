@@ -2,7 +2,6 @@
 #![tactic(auto)]
 
 use std::io;
-use std::io::Read;
 
 // How long the word at the front is: 0 where the text or the line ends there, and at most 40.
 fn word_length(text: &[u8]) -> usize {
@@ -67,10 +66,10 @@ fn make(rt: &HostRuntime, text: &[u8]) -> io::Result<()> {
 }
 
 fn main(rt: HostRuntime) -> io::Result<()> {
-    let mut text = Vec::new(rt.alloc());
-    let n = rt.reader().take(65_537).read_to_end(&mut text)?;
+    let mut text = [0u8; 65_537];
+    let n = saying::read_full(&rt, &mut text)?;
     if 65_536 < n {
         return saying::refuse(&rt, "planmake", "the words are more than 65,536 bytes");
     }
-    make(&rt, &text)
+    make(&rt, &text[..n])
 }

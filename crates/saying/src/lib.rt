@@ -1,14 +1,16 @@
-// What the programs say on standard error. A refusal also puts a byte on descriptor 3, where one is open, and the program's own status stays 0.
+// What the programs say on standard error, and how they read. A refusal also puts a byte on descriptor 3, where one is open, and the program's
+// own status stays 0.
 #![tactic(auto)]
 
-ghost use Rattle.std.specs.Prelude.{◌≤◌};
+ghost use Rattle.std.specs.Prelude.{◌≤◌, IfOk, length};
 
 use std::fs::OpenOptions;
-use std::io;
-use std::io::Write;
+use std::io::{Read, Write};
+use std::os::unix::fs::MetadataExt;
 use std::rt::Files;
+use std::{fs, io};
 
-const STATUS: &str = "/dev/fd/3";
+const STATUS: &str = "/proc/self/fd/3";
 
 pub fn least(a: usize, b: usize) -> usize
     ensures { (result ≤ a) × (result ≤ b) }
@@ -23,8 +25,29 @@ pub fn write_part(out: &impl Print, bytes: &[u8], from: usize, to: usize) -> io:
     out.write_all(&bytes[start..end])
 }
 
+// Reads until the room is full or the input ends; how many bytes came.
+pub fn read_full(rt: &impl Input, room: &mut [u8]) -> io::Result<usize>
+    ensures { IfOk result (λ n. n ≤ length room.new) }
+{
+    let mut input = rt.reader();
+    let mut done: usize = 0;
+    while done < room.len() {
+        let n = input.read(&mut room[done..])?;
+        if n == 0 {
+            break;
+        }
+        done += n;
+    }
+    Ok(done)
+}
+
+// The link to a descriptor may be written by its owner where the descriptor was opened for writing: one for reading alone is not for this.
+// A pipe that nobody reads is opened for both ways without waiting.
 fn mark(rt: &impl Files) -> io::Result<()> {
-    let mut status = OpenOptions::new().append(true).open(rt, STATUS)?;
+    if fs::symlink_metadata(rt, STATUS)?.mode() & 0o200 == 0 {
+        return Ok(());
+    }
+    let mut status = OpenOptions::new().read(true).append(true).open(rt, STATUS)?;
     status.write_all(b"1")
 }
 

@@ -1,7 +1,7 @@
 -- `read_full` ends, within the room.
 -- Each turn brings a byte or more, and the room keeps its length.
 use Rattle.std.proofs.Common.{length, ◌-◌, ◌≡◌, ◌≤◌}
-use Rattle.planlist.proofs.read_full.Given as goal
+use Rattle.saying.proofs.read_full.Given as goal
 
 abbrev pub invariant-loop-done : goal.invariant-loop-done
 invariant-loop-done g l = (l.done ≤ length l.room) × (length l.room ≡ length l.initial.room)

@@ -1,0 +1,2 @@
+-- That each contract determines what it answers and leaves.
+pub mod Determined
