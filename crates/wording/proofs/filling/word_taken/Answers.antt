@@ -9,9 +9,6 @@ pub returns-then-m : goal.returns-then-m
 unfolding word_taken
 returns-then-m c = rw c.if-m.true
 
--- UNMATCHED slice-aggregate-number-in : tie.Need-slice-aggregate-number-in
--- slice-aggregate-number-in c = search rules
-
 pub returns-then-not-m : goal.returns-then-not-m
 unfolding word_taken
 returns-then-not-m c = rw (c.key_taken.ensures, c.number_in-key.ensures, c.if-m.false, c.if-not-m.true)

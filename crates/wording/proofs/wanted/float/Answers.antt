@@ -1,4 +1,5 @@
 -- `float` is the float nearest to a number.
+-- By the promises of what it calls; a signed number of 32 bits is read back as itself.
 use Rattle.std.proofs.Common.{◌≡◌, to_z-of_z, w32, to_z, of_z, rules}
 use Rattle.wording.specs.Wanted.{float_of}
 use Rattle.wording.proofs.wanted.float.Goals as goal
