@@ -13,11 +13,7 @@ struct Tally {
     above: u64,
     // Levels half way between two entries, and the first of them.
     ties: u64,
-    first: u64,
-}
-
-fn one_more(count: u64) -> u64 {
-    std::num::wrapping_add_u64(count, 1)
+    first: Option<u16>,
 }
 
 // A number taken into the digest of those before it: a polynomial, by the largest prime below 2^32.
@@ -29,24 +25,19 @@ fn with_code(tally: Tally, code: u16) -> Tally {
     let level = srgb10::level(code);
     let mut next = tally;
     if code > 1023 {
-        if level != 0 {
-            next.above = one_more(tally.above);
-        }
+        next.above = tally.above.wrapping_add((level != 0) as u64);
         return next;
     }
     next.levels = taken(tally.levels, level);
-    if srgb10::code(level) == code {
-        next.returning = one_more(tally.returning);
-    }
+    next.returning = tally
+        .returning
+        .wrapping_add((srgb10::code(level) == code) as u64);
     next
 }
 
 // Whether a level lies half way between its code's entry and the next one.
 fn is_tie(level: u16, code: u16) -> bool {
-    if code >= 1023 {
-        return false;
-    }
-    srgb10::level(code) as u32 + srgb10::level(code + 1) as u32 == 2 * (level as u32)
+    code < 1023 && srgb10::level(code) as u32 + srgb10::level(code + 1) as u32 == 2 * (level as u32)
 }
 
 fn with_level(tally: Tally, level: u16) -> Tally {
@@ -54,26 +45,22 @@ fn with_level(tally: Tally, level: u16) -> Tally {
     let mut next = tally;
     next.codes = taken(tally.codes, code);
     if is_tie(level, code) {
-        next.ties = one_more(tally.ties);
-        if tally.ties == 0 {
-            next.first = level as u64;
-        }
+        next.ties = tally.ties.wrapping_add(1);
+        next.first = tally.first.or(Some(level));
     }
     next
 }
 
-fn print(rt: &impl Print, text: &str, number: u64) -> io::Result<()> {
-    print!(rt; "{text}{number}")
-}
-
 fn report(rt: &impl Print, tally: Tally) -> io::Result<()> {
-    print(rt, "1024 codes, digest of their levels ", tally.levels)?;
-    print(rt, "\n65536 levels, digest of their codes ", tally.codes)?;
-    print(rt, "\ncodes that return to themselves ", tally.returning)?;
-    print(rt, "\ncodes above 1023 with a level ", tally.above)?;
-    print(rt, "\nties ", tally.ties)?;
-    print(rt, ", the first at level ", tally.first)?;
-    rt.println("")
+    println!(rt; "1024 codes, digest of their levels {}", tally.levels)?;
+    println!(rt; "65536 levels, digest of their codes {}", tally.codes)?;
+    println!(rt; "codes that return to themselves {}", tally.returning)?;
+    println!(rt; "codes above 1023 with a level {}", tally.above)?;
+    println!(rt;
+        "ties {}, the first at level {}",
+        tally.ties,
+        tally.first.unwrap_or(0)
+    )
 }
 
 fn main(rt: HostRuntime) -> io::Result<()> {
@@ -83,12 +70,10 @@ fn main(rt: HostRuntime) -> io::Result<()> {
         returning: 0,
         above: 0,
         ties: 0,
-        first: 0,
+        first: None,
     };
-    let mut n: u32 = 0;
-    while n < 65536 {
-        tally = with_level(with_code(tally, n as u16), n as u16);
-        n += 1;
+    for n in 0..=u16::MAX {
+        tally = with_level(with_code(tally, n), n);
     }
     report(&rt, tally)
 }

@@ -1,4 +1,5 @@
 // One op, applied to three lent channels, after `ColorTransformOp::run` of src/convert.rs.
+// Three slices, as `channels` says.
 #![tactic(auto)]
 
 ghost use Rattle.std.specs.Prelude.{◌≡◌};
@@ -7,11 +8,11 @@ ghost use Rattle.channels.specs.Stepping.{step_of};
 ghost use Rattle.op.specs.Widths.{gives_of};
 ghost use Rattle.apply.specs.Apply.{after_op};
 
-use channels::Stepping;
+use channels::Unequal;
 use op::Op;
 
 // The samples of the op's own step, without its report. TransferFunction Linear or Unknown has no effect; nor has an op that is not carried: a run refuses its list.
-pub fn apply(op: Op, width: u8, a: &mut [f32], b: &mut [f32], c: &mut [f32]) -> Stepping
+pub fn apply(op: Op, width: u8, a: &mut [f32], b: &mut [f32], c: &mut [f32]) -> Result<u8, Unequal>
     ensures value { result ≡ step_of (gives_of op width) (channels a.old b.old c.old) }
     ensures c_after { channels a.new b.new c.new ≡ where_equal (after_op op width) (channels a.old b.old c.old) }
 {

@@ -1,5 +1,6 @@
 -- No block is longer than 1,192 bytes: so many are enough to read it, whatever follows.
 -- An op takes at most 37 bytes, and looks at no more.
+use Rattle.std.specs.Prelude.{Err, Result, Ok}
 use Prim.Native.Nat.{ℕ, zero, suc, ◌-◌, ◌*◌, ◌≤◌, ◌<◌}
 use mathlib.Core.Path.{◌≡◌, refl, ap, sym, ◌∙◌}
 use mathlib.Core.Bool.{Bool, true, false, not}
@@ -17,9 +18,9 @@ use Rattle.list.proofs.Formed.{formed-exactly}
 use Rattle.block.specs.Fields.{byte_at, payload_of}
 use Rattle.block.specs.Block.{refused_by, version_of, right_mark, head_of, op_in, after_kind, on_found, before, ops_in, read_behind, read_of}
 use Rattle.block.specs.Refusals.{Stands, stands}
-use Rattle.block.specs.declared.Reading.TheVariants.{WrongMark}
+use Rattle.block.specs.declared.ReadError.TheVariants.{WrongMark}
 use Rattle.block.specs.declared.Found.{Found}
-use Rattle.block.specs.declared.Found.TheVariants.{Whole, Refused}
+use Rattle.block.specs.declared.ReadError.{ReadError}
 use Rattle.block.proofs.Layouts.{payload-small}
 use Rattle.block.proofs.Heads.{drop-take, same_byte}
 use Rattle.block.proofs.Versions.{head-within}
@@ -45,13 +46,13 @@ ops-enough : (n : ℕ) (s : List ℕ) (k : ℕ) → 37 * n ≤ k → ops_in n (t
 ops-enough zero s k h = refl
 ops-enough (suc n) s k h = rw (op-enough s k (omega arith)) (by (op_in s) refl (λ size l. ops-enough n (drop size s) (k - size) (omega arith)))
   where
-    by : (f : Found) → op_in s ≡ f → ((size : ℕ) → size ≤ 37 → ops_in n (take (k - size) (drop size s)) ≡ ops_in n (drop size s))
+    by : (f : Result Found ReadError) → op_in s ≡ f → ((size : ℕ) → size ≤ 37 → ops_in n (take (k - size) (drop size s)) ≡ ops_in n (drop size s))
         → on_found f (λ o size. before o size (ops_in n (drop size (take k s)))) ≡ on_found f (λ o size. before o size (ops_in n (drop size s)))
-    by (Whole o size) e rest = rw (drop-take size k s, rest size (op-small (found_stands s e)))
-    by (Refused reading) e rest = refl
+    by (Ok f) e rest = rw (drop-take f.size k s, rest f.size (op-small (found_stands s e)))
+    by (Err x) e rest = refl
 
 -- of a slice that has its head whole, the mark decides, and then what is behind the head
-headed : (s : List ℕ) → 8 ≤ length s → read_of s ≡ (when not (right_mark s) then refused_by WrongMark else read_behind (version_of s) s)
+headed : (s : List ℕ) → 8 ≤ length s → read_of s ≡ (when not (right_mark s) then refused_by (Err WrongMark) else read_behind (version_of s) s)
 headed s h =
     let seven : 7 ≤ length s = omega arith in
     let all : head_of (version_of s) ≤ length s = omega (arith, (head-within (version_of s)).1) in

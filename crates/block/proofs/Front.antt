@@ -1,5 +1,6 @@
 -- The op at the front of a slice, by the tests of the code: its length, and its first byte.
 -- A slice that is not empty is its first byte and the rest.
+use Rattle.std.specs.Prelude.{Err, Ok}
 use Prim.Native.Nat.{ℕ, suc, ◌+◌, ◌-◌, ◌≤◌, ◌<◌}
 use mathlib.Core.Path.{◌≡◌, refl}
 use mathlib.Core.List.{List, [], ◌∷◌}
@@ -10,11 +11,10 @@ use lib.ListN.{length, take, drop, length-drop}
 use Rattle.op.specs.declared.Op.{Op}
 use Rattle.block.specs.Fields.{byte_at, payload_of, op_read}
 use Rattle.block.specs.BadFields.{bad_field}
-use Rattle.block.specs.Block.{op_in, after_kind, fields_in}
-use Rattle.block.specs.declared.Reading.TheVariants.{Short, BadOp}
-use Rattle.block.specs.declared.Found.TheVariants.{Whole, Refused}
+use Rattle.block.specs.Block.{taken, op_in, after_kind, fields_in}
+use Rattle.block.specs.declared.ReadError.TheVariants.{Short, BadOp}
 
-pub no_kind : (s : List ℕ) → length s ≡ 0 → Refused Short ≡ op_in s
+pub no_kind : (s : List ℕ) → length s ≡ 0 → (Err Short) ≡ op_in s
 no_kind [] e = refl
 no_kind (kind ∷ s) e = absurd (omega arith)
 
@@ -26,10 +26,10 @@ module _ (s : List ℕ) (h : ¬ (length s ≡ 0)) where
       by [] h = absurd (h refl)
       by (kind ∷ s) h = refl
 
-  pub unknown : 9 < byte_at s 0 → Refused BadOp ≡ op_in s
+  pub unknown : 9 < byte_at s 0 → (Err BadOp) ≡ op_in s
   unknown k = rw (front, lt-ltb 9 (byte_at s 0) k)
 
-  pub short : byte_at s 0 ≤ 9 → length s < 1 + payload_of (byte_at s 0) → Refused Short ≡ op_in s
+  pub short : byte_at s 0 ≤ 9 → length s < 1 + payload_of (byte_at s 0) → (Err Short) ≡ op_in s
   short k l =
       let q : length (drop 1 s) < payload_of (byte_at s 0) = omega (arith, length-drop 1 s) in
       rw (front, le-ltb 9 (byte_at s 0) k, lt-ltb (length (drop 1 s)) (payload_of (byte_at s 0)) q)
@@ -42,8 +42,8 @@ module _ (s : List ℕ) (h : ¬ (length s ≡ 0)) where
         let f : 1 + n - 1 ≡ payload_of (byte_at s 0) = omega arith in
         rw (front, le-ltb 9 (byte_at s 0) k, le-ltb (length (drop 1 s)) (payload_of (byte_at s 0)) q, f)
 
-    pub bad : {b : Bool} → b ≡ bad_field (byte_at s 0) (take (1 + n - 1) (drop 1 s)) → b ≡ true → Refused BadOp ≡ op_in s
+    pub bad : {b : Bool} → b ≡ bad_field (byte_at s 0) (take (1 + n - 1) (drop 1 s)) → b ≡ true → (Err BadOp) ≡ op_in s
     bad p q = rw (whole, ← p, q)
 
-    pub good : {b : Bool} {o : Op} → b ≡ bad_field (byte_at s 0) (take (1 + n - 1) (drop 1 s)) → b ≡ false → o ≡ op_read (byte_at s 0) (take (1 + n - 1) (drop 1 s)) → Whole o (1 + n) ≡ op_in s
+    pub good : {b : Bool} {o : Op} → b ≡ bad_field (byte_at s 0) (take (1 + n - 1) (drop 1 s)) → b ≡ false → o ≡ op_read (byte_at s 0) (take (1 + n - 1) (drop 1 s)) → Ok (taken o (1 + n)) ≡ op_in s
     good p q r = let f : 1 + n ≡ suc (payload_of (byte_at s 0)) = omega arith in rw (whole, ← p, q, r, f)

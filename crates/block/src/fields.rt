@@ -1,5 +1,5 @@
 // The fields of an op of a plan block, which follow its kind byte: what they stand for, and which are bad.
-// Cells up to a count say by their values which fields these are.
+// Blank cells say by their values which fields these are. Which are bad and what they stand for are asked apart, as the contracts say both.
 ghost use Rattle.std.specs.Prelude.{◌≡◌, map, ◌+◌, ◌≤◌, length, take};
 ghost use Rattle.parts.specs.Parts.{field_of, field_in, value_of};
 ghost use Rattle.block.specs.Fields.{size_of, bytes_of, u16_at, u32_at, first_float, value_in, values_in};
@@ -7,7 +7,7 @@ ghost use Rattle.block.specs.BadFields.{bad_curve, is_bad, any_bad};
 
 use parts::{Cell, Value};
 
-const LARGEST_G: u32 = 16_777_215;
+pub const LARGEST_G: u32 = 16_777_215;
 
 fn size_of(blank: Value) -> usize
     ensures { result ≡ size_of (field_of blank) }
@@ -20,17 +20,13 @@ fn size_of(blank: Value) -> usize
 }
 
 // The bytes of all the fields.
-pub(crate) fn payload(cells: [Cell; 9], count: usize) -> usize
-    requires { count ≤ 9 }
-    ensures { result ≡ bytes_of (map field_in (take count cells)) }
+pub(crate) fn payload(blanks: &[Cell]) -> usize
+    requires { length blanks.now ≤ 9 }
+    ensures { result ≡ bytes_of (map field_in blanks.now) }
 {
-    let mut size: usize = 0;
-    let mut i: usize = 0;
-    while i < count {
-        let cell = cells[i];
-        let blank = cell.0;
-        size += size_of(blank);
-        i += 1;
+    let mut size = 0;
+    for blank in blanks {
+        size += size_of(blank.0);
     }
     size
 }
@@ -39,16 +35,14 @@ pub(crate) fn u16_at(s: &[u8], at: usize) -> u16
     requires { at + 2 ≤ length s.now }
     ensures { result ≡ u16_at s.now at }
 {
-    let low = s[at];
-    let high = s[at + 1];
-    low as u16 + 0x100 * (high as u16)
+    u16::from_le_bytes([s[at], s[at + 1]])
 }
 
 fn u32_at(s: &[u8], at: usize) -> u32
     requires { at + 4 ≤ length s.now }
     ensures { result ≡ u32_at s.now at }
 {
-    u16_at(s, at) as u32 + 0x1_0000 * (u16_at(s, at + 2) as u32)
+    u32::from_le_bytes([s[at], s[at + 1], s[at + 2], s[at + 3]])
 }
 
 // Every NaN's pattern is the one NaN.
@@ -56,23 +50,13 @@ fn first_float(s: &[u8]) -> f32
     requires { 4 ≤ length s.now }
     ensures { result ≡ first_float s.now }
 {
-    let bits = u32_at(s, 0) as u64;
-    binary32::put_together(bits >= 0x8000_0000, bits % 0x8000_0000)
+    binary32::from_pattern(u32_at(s, 0))
 }
 
 fn bad_curve(n: u8, g: u32) -> bool
     ensures { result ≡ bad_curve n g }
 {
-    if n > 8 {
-        return true;
-    }
-    if g > LARGEST_G {
-        return true;
-    }
-    if n < 2 {
-        return false;
-    }
-    g != 0
+    n > 8 || g > LARGEST_G || (n >= 2 && g != 0)
 }
 
 // Whether the field at the front of a slice is bad.
@@ -81,30 +65,23 @@ fn is_bad(blank: Value, s: &[u8]) -> bool
     ensures { result ≡ is_bad (field_of blank) s.now }
 {
     match blank {
-        Value::Float(_) => {
-            let x = first_float(s);
-            x != x
-        }
+        Value::Float(_) => first_float(s).is_nan(),
         Value::Flag(_) => s[0] > 1,
         Value::Curve(_) => bad_curve(s[0], u32_at(s, 1)),
     }
 }
 
 // Whether one of the fields, one after the other, is bad.
-pub(crate) fn any_bad(cells: [Cell; 9], count: usize, s: &[u8]) -> bool
-    requires { (count ≤ 9) × (bytes_of (map field_in (take count cells)) ≤ length s.now) }
-    ensures { result ≡ any_bad (map field_in (take count cells)) s.now }
+pub(crate) fn any_bad(blanks: &[Cell], s: &[u8]) -> bool
+    requires { bytes_of (map field_in blanks.now) ≤ length s.now }
+    ensures { result ≡ any_bad (map field_in blanks.now) s.now }
 {
-    let mut at: usize = 0;
-    let mut i: usize = 0;
-    while i < count {
-        let cell = cells[i];
-        let blank = cell.0;
-        if is_bad(blank, &s[at..]) {
+    let mut at = 0;
+    for blank in blanks {
+        if is_bad(blank.0, &s[at..]) {
             return true;
         }
-        at += size_of(blank);
-        i += 1;
+        at += size_of(blank.0);
     }
     false
 }
@@ -122,19 +99,16 @@ fn value_in(blank: Value, s: &[u8]) -> Value
 }
 
 // The values of the fields, one after the other, in the first cells.
-pub(crate) fn values_in(blanks: [Cell; 9], count: usize, s: &[u8]) -> [Cell; 9]
-    requires { (count ≤ 9) × (bytes_of (map field_in (take count blanks)) ≤ length s.now) }
-    ensures { map value_of (take count result) ≡ values_in (map field_in (take count blanks)) s.now }
+pub(crate) fn values_in(blanks: &[Cell], s: &[u8]) -> [Cell; 9]
+    requires blanks_few { length blanks.now ≤ 9 }
+    requires blanks_room { bytes_of (map field_in blanks.now) ≤ length s.now }
+    ensures { map value_of (take (length blanks.now) result) ≡ values_in (map field_in blanks.now) s.now }
 {
-    let mut cells = blanks;
-    let mut at: usize = 0;
-    let mut i: usize = 0;
-    while i < count {
-        let cell = blanks[i];
-        let blank = cell.0;
-        cells[i] = Cell(value_in(blank, &s[at..]));
-        at += size_of(blank);
-        i += 1;
+    let mut cells = [Cell(Value::Float(0.0)); 9];
+    let mut at = 0;
+    for (i, blank) in blanks.iter().enumerate() {
+        cells[i] = Cell(value_in(blank.0, &s[at..]));
+        at += size_of(blank.0);
     }
     cells
 }

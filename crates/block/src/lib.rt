@@ -1,12 +1,13 @@
 // Reads a plan block, and hands back the rest of the caller's slice.
 #![tactic(auto)]
 
-ghost use Rattle.std.specs.Prelude.{◌≡◌, ◌≤◌, length, drop};
+ghost use Rattle.std.specs.Prelude.{◌≡◌, ◌≤◌, length, drop, Err};
 ghost use Rattle.list.specs.Lists.{Formed};
 ghost use Rattle.block.specs.Block.{paper, refused_by, known_version, right_mark, head_of, op_in, ops_in, listed, end_told, read_of, RestOf};
 
 mod fields; // fields.rt: the fields of an op
 
+pub use fields::LARGEST_G;
 use list::Plan;
 use notation::Answer;
 use op::Op;
@@ -16,10 +17,9 @@ pub const MARK: [u8; 3] = [b'C', b'T', b'P'];
 // The mark, the version, the start width and the count.
 const HEAD: usize = 7;
 
-// What reading answers.
-#[derive(Clone, Copy)]
-pub enum Reading {
-    Done,
+// For what a block is not read.
+#[derive(Clone, Copy, Debug, PartialEq, Eq)]
+pub enum ReadError {
     // 7: the block ends early.
     Short,
     // 8: wrong mark or version.
@@ -30,115 +30,93 @@ pub enum Reading {
     Malformed,
 }
 
-// What was read: the version, the list, and how many bytes the block takes; 0, the empty list and none where reading is refused.
-#[derive(Clone, Copy)]
+// What was read: the version, the list, and how many bytes the block takes; 0, the empty list and none where reading is refused, as 01 says.
+#[derive(Clone, Copy, Debug)]
 pub struct Block {
-    pub answer: Reading,
+    pub answer: Result<(), ReadError>,
     pub version: u16,
     pub plan: Plan,
     pub used: usize,
 }
 
-// An op and the bytes that it takes, or a refusal.
+// An op and the bytes that it takes.
 #[derive(Clone, Copy)]
-enum Found {
-    Whole { op: Op, size: usize },
-    Refused(Reading),
+struct Found {
+    op: Op,
+    size: usize,
 }
 
 // The paper's answer.
-pub fn paper(reading: Reading) -> Answer
+pub fn paper(reading: Result<(), ReadError>) -> Answer
     ensures { result ≡ paper reading }
 {
     match reading {
-        Reading::Done => Answer {
-            number: 0,
-            position: 0,
-            width: 0,
-        },
-        Reading::Short => Answer {
-            number: 7,
-            position: 0,
-            width: 0,
-        },
-        Reading::WrongMark => Answer {
-            number: 8,
-            position: 0,
-            width: 0,
-        },
-        Reading::BadOp => Answer {
-            number: 9,
-            position: 0,
-            width: 0,
-        },
-        Reading::Malformed => Answer {
-            number: 10,
-            position: 0,
-            width: 0,
-        },
+        Ok(()) => Answer::done(0),
+        Err(ReadError::Short) => Answer::refused(7),
+        Err(ReadError::WrongMark) => Answer::refused(8),
+        Err(ReadError::BadOp) => Answer::refused(9),
+        Err(ReadError::Malformed) => Answer::refused(10),
     }
 }
 
-fn refused_by(reading: Reading) -> Block
-    ensures { result ≡ refused_by reading }
+fn refused_by(e: ReadError) -> Block
+    ensures { result ≡ refused_by (Err e) }
 {
     Block {
-        answer: reading,
+        answer: Err(e),
         version: 0,
         plan: list::empty(0),
         used: 0,
     }
 }
 
+// A version stays a number: any may be read or asked for, and what is neither 1 nor 2 is refused by 8.
 pub fn known_version(version: u16) -> bool
     ensures { result ≡ known_version version }
 {
-    (version == 1) | (version == 2)
+    matches!(version, 1 | 2)
 }
 
 fn right_mark(s: &[u8]) -> bool
     requires { 7 ≤ length s.now }
     ensures { result ≡ right_mark s.now }
 {
-    (s[0] == MARK[0]) & (s[1] == MARK[1]) & (s[2] == MARK[2]) & known_version(fields::u16_at(s, 3))
+    &s[..3] == MARK.as_slice() && known_version(fields::u16_at(s, 3))
 }
 
 // The bytes before the ops: in version 2 the end width stands behind the count.
 fn head_of(version: u16) -> usize
     ensures { result ≡ head_of version }
 {
-    if version == 2 {
-        return HEAD + 1;
-    }
-    HEAD
+    if version == 2 { HEAD + 1 } else { HEAD }
 }
 
 // The op at the front of a slice.
-fn read_op(s: &[u8]) -> Found
+fn read_op(s: &[u8]) -> Result<Found, ReadError>
     ensures { result ≡ op_in s.now }
 {
-    if s.len() == 0 {
-        return Found::Refused(Reading::Short);
+    if s.is_empty() {
+        return Err(ReadError::Short);
     }
+    // A kind stays a number, as `parts` says.
     let kind = s[0];
     if kind > 9 {
-        return Found::Refused(Reading::BadOp);
+        return Err(ReadError::BadOp);
     }
     let layout = parts::layout_of(kind);
-    let fields = layout.cells;
-    let count = layout.count;
-    let size = 1 + fields::payload(fields, count);
+    let blanks = &layout.cells[..layout.count];
+    let size = 1 + fields::payload(blanks);
     if s.len() < size {
-        return Found::Refused(Reading::Short);
+        return Err(ReadError::Short);
     }
     let payload = &s[1..size];
-    if fields::any_bad(fields, count, payload) {
-        return Found::Refused(Reading::BadOp);
+    if fields::any_bad(blanks, payload) {
+        return Err(ReadError::BadOp);
     }
-    Found::Whole {
-        op: parts::op_by(kind, fields::values_in(fields, count, payload)),
+    Ok(Found {
+        op: parts::op_by(kind, fields::values_in(blanks, payload)),
         size,
-    }
+    })
 }
 
 // Op by op, each from where the one before it ends.
@@ -148,21 +126,17 @@ fn read_ops(s: &[u8], version: u16, start: u8, count: u8) -> Block
 {
     let mut plan = list::empty(start);
     let mut used = head_of(version);
-    let mut i: u8 = 0;
-    while i < count {
+    for i in 0..count {
         match read_op(&s[used..]) {
-            Found::Whole { op, size } => {
-                plan = list::push(plan, op);
-                used += size;
+            Ok(found) => {
+                plan = list::push(plan, found.op);
+                used += found.size;
             }
-            Found::Refused(reading) => {
-                return refused_by(reading);
-            }
+            Err(e) => return refused_by(e),
         }
-        i += 1;
     }
     Block {
-        answer: Reading::Done,
+        answer: Ok(()),
         version,
         plan,
         used,
@@ -174,10 +148,9 @@ fn end_told(s: &[u8], block: Block) -> Block
     requires { head_of block.version ≤ length s.now }
     ensures { result ≡ end_told s.now block }
 {
-    let plan = block.plan;
     if block.version == 2 {
-        if s[HEAD] != plan.end {
-            return refused_by(Reading::BadOp);
+        if s[HEAD] != block.plan.end {
+            return refused_by(ReadError::BadOp);
         }
     }
     block
@@ -187,19 +160,19 @@ pub fn read(bytes: &[u8]) -> Block
     ensures { result ≡ read_of bytes.now }
 {
     if bytes.len() < HEAD {
-        return refused_by(Reading::Short);
+        return refused_by(ReadError::Short);
     }
     if !right_mark(bytes) {
-        return refused_by(Reading::WrongMark);
+        return refused_by(ReadError::WrongMark);
     }
     let version = fields::u16_at(bytes, 3);
     if bytes.len() < head_of(version) {
-        return refused_by(Reading::Short);
+        return refused_by(ReadError::Short);
     }
     let start = bytes[5];
     let count = bytes[6];
     if !list::well_formed(start, count as usize) {
-        return refused_by(Reading::Malformed);
+        return refused_by(ReadError::Malformed);
     }
     end_told(bytes, read_ops(bytes, version, start, count))
 }

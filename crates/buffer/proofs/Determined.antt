@@ -9,4 +9,4 @@ pub put-determines : Determines 2 put_kinds.ps put_kinds.r put.Post (λ κs r s.
 put-determines κs a x y s t p q = p.0 ∙ sym q.0
 
 pub put-buffer_determines : Determines 2 put_kinds.ps put_kinds.r put.Post (λ κs r s. s.0.now)
-put-buffer_determines κs a x y s t p q = p.1 ∙ sym q.1
+put-buffer_determines κs a x y s t p q = p.1.0 ∙ sym q.1.0

@@ -1,15 +1,13 @@
 -- Bytes that are put one behind the other are put as one.
 -- What the first put leaves before and behind its end is known, and the second begins there.
-use Prim.Native.Nat.{ℕ, ◌+◌, ◌-◌, ◌≤◌, ◌<◌}
+use Prim.Native.Nat.{ℕ, ◌+◌, ◌≤◌, ◌<◌}
 use mathlib.Core.Path.{◌≡◌, refl, sym, ap, ◌∙◌}
 use mathlib.Core.List.{List, [], ◌++◌, append_assoc, append-nil}
-use native.Mathlib.Nat.{zero-add}
 use native.Mathlib.Omega.{arith}
-use lib.ListN.{length, take, drop, length-append, length-drop, take-append-drop, drop_of_length-le}
-use lib.Seq.{length-take-le, take_all, take_at, drop_at, drop-drop}
-use borrow.Author.Tests.{le-leb, lt-leb}
-use borrow.Rule.Slice.PartMut.{mid_of, post_of, put_mid}
-use Rattle.buffer.specs.Buffer.{placed, behind, Room, Put, Listed}
+use lib.ListN.{length, take, drop, length-append, length-drop, take-append-drop}
+use lib.Seq.{length-take-le, take_at, drop_at, drop-drop}
+use borrow.Author.Tests.{lt-leb}
+use Rattle.buffer.specs.Buffer.{placed, behind, Room, Put}
 
 head : (old : List ℕ) (at : ℕ) (s : List ℕ) → Room old at s → length (take at old ++ s) ≡ at + length s
 head old at s room =
@@ -22,42 +20,9 @@ kept {old} {at} {s} room p =
     ap length p.contents
     ∙ omega (arith, length-append (take at old ++ s) (drop (at + length s) old), head old at s room, length-drop (at + length s) old)
 
--- a copy into the part of the buffer from that place on
-copied : (old : List ℕ) (at : ℕ) (s part : List ℕ) (n : ℕ) → Room old at s → n ≡ length s
-    → part ≡ take (length s) s ++ drop (length s) (mid_of at (length old - at) old)
-    → Put old at s (put_mid at (length old - at) old part) (at + n)
-copied old at s part n room e f = record { next = ap (λ (k : ℕ). at + k) e; contents = whole }
-  where
-    within : at ≤ length old
-    within = let h = room.enough in omega arith
-
-    from-there : mid_of at (length old - at) old ≡ drop at old
-    from-there = take_all (length old - at) (drop at old) (omega (arith, length-drop at old))
-
-    after : post_of at (length old - at) old ≡ []
-    after = drop_of_length-le (drop at old) {i = length old - at} (omega (arith, length-drop at old))
-
-    whole : put_mid at (length old - at) old part ≡ take at old ++ s ++ drop (at + length s) old
-    whole = rw (after, append-nil part, f, take_all (length s) s (omega arith), from-there, drop-drop (length s) at old) (sym (append_assoc (take at old) s (drop (at + length s) old)))
-
--- what `put` answers and leaves
-module _ (old : List ℕ) (at : ℕ) (s : List ℕ) where
-  pub put-there : {part : List ℕ} {n : ℕ} → Room old at s → n ≡ length s
-      → part ≡ take (length s) s ++ drop (length s) (mid_of at (length old - at) old)
-      → (at + n ≡ behind old at s) × (put_mid at (length old - at) old part ≡ placed old at s)
-  put-there {part} {n} room e f =
-      let p = copied old at s part n room e f in
-      let b = le-leb (at + length s) (length old) room.enough in
-      (rw b p.next, rw b p.contents)
-
-  pub no_room : length old < at + length s → (at ≡ behind old at s) × (old ≡ placed old at s)
-  no_room h = let b = lt-leb (at + length s) (length old) h in (rw b, rw b)
-
-  -- with room
-  pub putting : {new : List ℕ} {r : ℕ} → Room old at s → r ≡ behind old at s → new ≡ placed old at s → Put old at s new r
-  putting room e f =
-      let b = le-leb (at + length s) (length old) room.enough in
-      record { next = rw b at e; contents = rw b at f }
+-- without room `put` answers the place, and leaves the buffer
+pub no_room : (old : List ℕ) (at : ℕ) (s : List ℕ) → length old < at + length s → (at ≡ behind old at s) × (old ≡ placed old at s)
+no_room old at s h = let b = lt-leb (at + length s) (length old) h in (rw b, rw b)
 
 -- nothing
 pub none : {old : List ℕ} {at : ℕ} → at ≤ length old → Put old at [] old at
@@ -107,7 +72,3 @@ module _ {old : List ℕ} {at : ℕ} {s mid : List ℕ} {m : ℕ} (t u : List �
 
 pub ended : {old : List ℕ} {at : ℕ} {s mid : List ℕ} {m : ℕ} → Goes old at s mid m [] → Put old at s mid m
 ended g = let h = g.room.enough in g.finish (none (omega arith))
-
--- from the front of the buffer
-pub listed : {old s new : List ℕ} {r : ℕ} → Put old 0 s new r → Listed s old new r
-listed {old} {s} p = record { size = p.next ∙ zero-add (length s); contents = rw (← zero-add (length s)) p.contents }

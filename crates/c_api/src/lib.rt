@@ -1,4 +1,5 @@
-// The library as C functions on numbers and slices.
+// The library as C functions on numbers and slices. Some differ in their conversion alone: C has a name for each, and no function that takes one.
+// Byte channels are slices of their own, as `planes` says.
 #![tactic(auto)]
 
 ghost use Rattle.std.specs.Prelude.{◌≡◌, ◌≤◌, T};

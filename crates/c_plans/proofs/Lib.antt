@@ -2,6 +2,5 @@
 pub mod Untouched
 pub mod ReadBack
 pub mod Determined
--- laws of a list that is sent, and of the calls
+-- laws of a list that is sent
 pub mod Sending
-pub mod Calls

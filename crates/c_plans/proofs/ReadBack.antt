@@ -1,5 +1,6 @@
 -- What was sent is read back as that list, and a plan as the planned list, so that a call on its block speaks of it; and a block written again is the same.
 -- A list that was sent was written whole (Sending), and what is written is read back (`roundtrip`); a planned list is its ops, with Clip past them.
+use Rattle.std.specs.Prelude.{Ok, Err, Some, None}
 use Prim.Native.Nat.{ℕ, ◌≤◌}
 use mathlib.Core.Path.{◌≡◌, ap, ◌∙◌}
 use mathlib.Core.Bool.{Bool, true, false}
@@ -26,10 +27,10 @@ use Rattle.stages.specs.Stages.{stage_ops}
 use Rattle.planner.specs.Planning as P
 use Rattle.planner.specs.Planning.{refusal, done, out_of_range, retired, unsupported, planned, planned_of}
 use Rattle.planner.specs.declared.Planned.{Planned}
-use Rattle.planner.specs.declared.Planning.{Planning}
-use Rattle.planner.specs.declared.Planning.TheVariants.{Icc, OutOfRange, Retired, Unsupported}
+use Rattle.planner.specs.Planning.{Planning}
+use Rattle.planner.specs.declared.PlanError.TheVariants.{Icc, OutOfRange, Retired, Unsupported}
 use Rattle.block.specs.Block.{paper, read_of}
-use Rattle.block.specs.declared.Reading.TheVariants as R
+use Rattle.block.specs.declared.ReadError.TheVariants as R
 use Rattle.writer.specs.Writing.{left_of}
 use Rattle.writer.specs.Refusals.{RetiredList}
 use Rattle.roundtrip.specs.Typed.{Typed, AreBytes}
@@ -37,8 +38,7 @@ use Rattle.roundtrip.proofs.ReadBack.{read_back}
 use Rattle.roundtrip.proofs.Rewriting.{same_block}
 use Rattle.numbers.specs.Sides.{side_of}
 use Rattle.numbers.specs.Floats.{settings_of}
-use Rattle.numbers.specs.declared.Side.{Side}
-use Rattle.numbers.specs.declared.Side.TheVariants.{Means, Nothing}
+use Rattle.numbers.specs.Sides.{Side}
 use Rattle.c_plans.specs.Planned.{beside, planned_by, planned_from}
 use Rattle.c_plans.specs.Sent.{sent_after, left_after}
 use Rattle.c_plans.specs.Lists.{plan_sent, plan_left, rewrite_left}
@@ -60,25 +60,25 @@ choice false x y h k = k
 
 whole_enum : (s t : EnumColourEncoding) (settings : Settings) → Whole (planned s t settings)
 whole_enum s t settings =
-    choice (out_of_range s t) _ _ (whole_refused OutOfRange)
-    (choice (retired s t) _ _ (whole_refused Retired)
+    choice (out_of_range s t) _ _ (whole_refused (Err OutOfRange))
+    (choice (retired s t) _ _ (whole_refused (Err Retired))
     (choice (equivalent s t) _ _ (whole_done (channels_of s) [])
-    (choice (unsupported s t) _ _ (whole_refused Unsupported) (whole_done (channels_of s) (merge_ops (stage_ops s t settings))))))
+    (choice (unsupported s t) _ _ (whole_refused (Err Unsupported)) (whole_done (channels_of s) (merge_ops (stage_ops s t settings))))))
 
 whole_plan : (s t : ColourEncoding) (settings : Settings) → Whole (planned_of s t settings)
-whole_plan E.IccProfile t settings = whole_refused Icc
-whole_plan (E.Enum s) E.IccProfile settings = whole_refused Icc
+whole_plan E.IccProfile t settings = whole_refused (Err Icc)
+whole_plan (E.Enum s) E.IccProfile settings = whole_refused (Err Icc)
 whole_plan (E.Enum s) (E.Enum t) settings = whole_enum s t settings
 
 whole_beside : (e : ColourEncoding) → Whole (beside e)
-whole_beside E.IccProfile = whole_refused Icc
-whole_beside (E.Enum e) = whole_refused OutOfRange
+whole_beside E.IccProfile = whole_refused (Err Icc)
+whole_beside (E.Enum e) = whole_refused (Err OutOfRange)
 
 whole_by : (s t : Side) (settings : Settings) → Whole (planned_by s t settings)
-whole_by (Means s) (Means t) settings = whole_plan s t settings
-whole_by (Means s) Nothing settings = whole_beside s
-whole_by Nothing (Means t) settings = whole_beside t
-whole_by Nothing Nothing settings = whole_refused OutOfRange
+whole_by (Some s) (Some t) settings = whole_plan s t settings
+whole_by (Some s) None settings = whole_beside s
+whole_by None (Some t) settings = whole_beside t
+whole_by None None settings = whole_refused (Err OutOfRange)
 
 -- a list that was sent in version v, and bytes t behind what was written: so of planning, merging, writing again and joining
 module _ (number : ℕ) (p : Plan) (v : ℕ) (old t : List ℕ) where
@@ -86,7 +86,7 @@ module _ (number : ℕ) (p : Plan) (v : ℕ) (old t : List ℕ) where
   length-sent = (sent_after number p v (length old)).length
 
   pub sent-read-back : Typed p → (sent_after number p v (length old)).number ≡ 0
-      → read_of (take length-sent (left_after number p v old) ++ t) ≡ record { answer = R.Done; version = v; plan = plan_of p.start (ops_of p); used = length-sent }
+      → read_of (take length-sent (left_after number p v old) ++ t) ≡ record { answer = (Ok tt); version = v; plan = plan_of p.start (ops_of p); used = length-sent }
   sent-read-back y e =
       let s = sent-whole number p v old e in
       rw (s.1, s.2) (read_back p y v old s.0 t)
@@ -104,8 +104,8 @@ module _ (source target : List ℤ) (floats : List Float) (detect pq v : ℕ) (o
   used = (plan_sent q v (length old)).length
 
   pub plan-read-back : Typed q.plan → (plan_sent q v (length old)).number ≡ 0
-      → read_of (take used (plan_left q v old) ++ t) ≡ record { answer = R.Done; version = v; plan = q.plan; used = used }
-  plan-read-back y e = sent-read-back (P.paper q.answer).number q.plan v old t y e ∙ ap (λ (p : Plan). record { answer = R.Done; version = v; plan = p; used = used }) whole
+      → read_of (take used (plan_left q v old) ++ t) ≡ record { answer = (Ok tt); version = v; plan = q.plan; used = used }
+  plan-read-back y e = sent-read-back (P.paper q.answer).number q.plan v old t y e ∙ ap (λ (p : Plan). record { answer = (Ok tt); version = v; plan = p; used = used }) whole
 
 -- a block written again at its own version is the same block, byte for byte, where it has no curve 3 and there is room
 pub rewrite_same : (s : List ℕ) → AreBytes s → paper (read_of s).answer ≡ answer 0 0 0 → ¬ RetiredList (read_of s).plan → (old : List ℕ) → (read_of s).used ≤ length old

@@ -1,5 +1,6 @@
 -- What is told and left where a list was sent, and where it was not.
 -- By the two tests: whether something was refused before, and whether the writer refuses.
+use Rattle.std.specs.Prelude.{Ok, Err}
 use Prim.Native.Nat.{ℕ}
 use mathlib.Core.Path.{◌≡◌, refl, ap, sym, ◌∙◌}
 use mathlib.Core.Bool.{Bool, true, false}
@@ -12,19 +13,19 @@ use Rattle.notation.specs.Answers.{answer}
 use Rattle.notation.specs.declared.Answer.{Answer}
 use Rattle.list.specs.declared.Plan.{Plan}
 use Rattle.writer.specs.Writing.{paper, length_of, writing_of, left_of}
-use Rattle.writer.specs.declared.Writing.{Writing}
-use Rattle.writer.specs.declared.Writing.TheVariants.{Done, Malformed, WrongVersion, BadField, Retired, NoRoom}
+use Rattle.writer.specs.Writing.{Writing}
+use Rattle.writer.specs.declared.WriteError.TheVariants.{Malformed, WrongVersion, BadField, Retired, NoRoom}
 use Rattle.writer.proofs.Exactly.{refused-untouched}
 use Rattle.c_plans.specs.Sent.{sent_after, left_after}
 
 -- the writer's number says all that it answers
 zero-whole : (w : Writing) → (paper w).number ≡ 0 → paper w ≡ answer 0 0 0
-zero-whole (Done n) e = refl
-zero-whole Malformed e = absurd (omega arith)
-zero-whole WrongVersion e = absurd (omega arith)
-zero-whole BadField e = absurd (omega arith)
-zero-whole Retired e = absurd (omega arith)
-zero-whole NoRoom e = absurd (omega arith)
+zero-whole (Ok n) e = refl
+zero-whole (Err Malformed) e = absurd (omega arith)
+zero-whole (Err WrongVersion) e = absurd (omega arith)
+zero-whole (Err BadField) e = absurd (omega arith)
+zero-whole (Err Retired) e = absurd (omega arith)
+zero-whole (Err NoRoom) e = absurd (omega arith)
 
 module _ (number : ℕ) (p : Plan) (v : ℕ) (old : List ℕ) where
   abbrev w : Writing

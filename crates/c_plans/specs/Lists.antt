@@ -4,7 +4,7 @@ use Rattle.notation.specs.Choice.{when◌then◌else◌}
 use Rattle.notation.specs.declared.Answer.{Answer}
 use Rattle.list.specs.Answer as L
 use Rattle.list.specs.Check.{check_of}
-use Rattle.list.specs.declared.Verdict.{Verdict}
+use Rattle.list.specs.Check.{Verdict}
 use Rattle.merge.specs.Merge.{merge_of}
 use Rattle.join.specs.Join.{join_of}
 use Rattle.join.specs.declared.Joined.{Joined}
@@ -12,7 +12,7 @@ use Rattle.planner.specs.Planning as P
 use Rattle.planner.specs.declared.Planned.{Planned}
 use Rattle.block.specs.Block.{paper}
 use Rattle.block.specs.declared.Block.{Block}
-use Rattle.block.specs.declared.Reading.{Reading}
+use Rattle.block.specs.Block.{Reading}
 use Rattle.c_plans.specs.Sent.{sent_after, left_after}
 use Rattle.c_plans.specs.declared.sent.Sent.{Sent}
 

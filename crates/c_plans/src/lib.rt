@@ -12,13 +12,14 @@ ghost use Rattle.c_plans.specs.Lists.{first_refusal, read_sent, checked_of, chec
 mod planned; // planned.rt: planning between what numbers mean
 mod sent; // sent.rt: a list written into the caller's bytes, and what is told of it
 
-use block::{Block, Reading};
-use list::Verdict;
+use block::{Block, ReadError};
+use list::CheckError;
 use notation::Answer;
 use planned::planned;
 use sent::{Sent, send, send_and_tell, tell, tell_widths};
 
 // The plan between two encodings, as a block of this version; told are its number, length, start width and end width.
+#[tactic(auto, unfolding(crate::specs::Planned::planned_from))]
 pub fn rindsaddle_plan(
     source: &[i32; 14],
     target: &[i32; 14],
@@ -37,21 +38,18 @@ pub fn rindsaddle_plan(
     let to = numbers::side_of(target);
     let with = numbers::settings_of(settings, detect_peak, from_pq);
     let plan = planned(from, to, with);
-    let answer = plan.answer;
-    let list = plan.plan;
-    send_and_tell(planner::paper(answer).number, list, version, out, told)
+    let number = planner::paper(plan.answer).number;
+    send_and_tell(number, plan.plan, version, out, told)
 }
 
 fn read_sent(block: Block) -> Sent
     ensures { result ≡ read_sent block }
 {
-    let reading = block.answer;
-    let plan = block.plan;
     Sent {
-        number: block::paper(reading).number,
+        number: block::paper(block.answer).number,
         length: block.used,
-        start: plan.start,
-        end: plan.end,
+        start: block.plan.start,
+        end: block.plan.end,
     }
 }
 
@@ -69,13 +67,10 @@ pub fn rindsaddle_read(bytes: &[u8], told: &mut [u64; 4]) -> u8
 fn checked(block: Block) -> Answer
     ensures { result ≡ checked_of block }
 {
-    let reading = block.answer;
-    let read = block::paper(reading);
-    if read.number != 0 {
-        return read;
+    match block.answer {
+        Ok(()) => list::paper(list::check(block.plan)),
+        Err(e) => block::paper(Err(e)),
     }
-    let plan = block.plan;
-    list::paper(list::check(plan))
 }
 
 // What the check says of a block's list; told are number, position, width and the block's version.
@@ -102,12 +97,9 @@ pub fn rindsaddle_merge(bytes: &[u8], out: &mut [u8], told: &mut [u64; 4]) -> u8
     ensures out_after { out.new ≡ merge_left (read_of bytes.now) out.old }
 {
     let block = block::read(bytes);
-    let reading = block.answer;
-    let plan = block.plan;
-    let version = block.version;
-    let merged = merge::merge(plan);
-    let list = merged.plan;
-    send_and_tell(block::paper(reading).number, list, version, out, told)
+    let number = block::paper(block.answer).number;
+    let merged = merge::merge(block.plan);
+    send_and_tell(number, merged.plan, block.version, out, told)
 }
 
 // The list of a block as a block of this version; told are number, length, start width and end width.
@@ -117,24 +109,23 @@ pub fn rindsaddle_rewrite(bytes: &[u8], version: u16, out: &mut [u8], told: &mut
     ensures out_after { out.new ≡ rewrite_left (read_of bytes.now) version out.old }
 {
     let block = block::read(bytes);
-    let reading = block.answer;
-    let plan = block.plan;
-    send_and_tell(block::paper(reading).number, plan, version, out, told)
+    let number = block::paper(block.answer).number;
+    send_and_tell(number, block.plan, version, out, told)
 }
 
 // The first block's refusal, or else the second's, or else joining's.
-fn first_refusal(first: Reading, second: Reading, verdict: Verdict) -> Answer
+fn first_refusal(
+    first: Result<(), ReadError>,
+    second: Result<(), ReadError>,
+    verdict: Result<u8, CheckError>,
+) -> Answer
     ensures { result ≡ first_refusal first second verdict }
 {
-    let one = block::paper(first);
-    if one.number != 0 {
-        return one;
+    match (first, second) {
+        (Ok(()), Ok(())) => list::paper(verdict),
+        (Ok(()), Err(e)) => block::paper(Err(e)),
+        (Err(e), _) => block::paper(Err(e)),
     }
-    let two = block::paper(second);
-    if two.number != 0 {
-        return two;
-    }
-    list::paper(verdict)
 }
 
 // The list of one block behind that of another, as a block of this version; told are number, position, length and end width.
@@ -151,15 +142,9 @@ pub fn rindsaddle_join(
 {
     let one = block::read(first);
     let two = block::read(second);
-    let p = one.plan;
-    let q = two.plan;
-    let joined = join::join(p, q);
-    let verdict = joined.answer;
-    let list = joined.plan;
-    let r = one.answer;
-    let s = two.answer;
-    let answer = first_refusal(r, s, verdict);
-    let sent = send(answer.number, list, version, out);
+    let joined = join::join(one.plan, two.plan);
+    let answer = first_refusal(one.answer, two.answer, joined.answer);
+    let sent = send(answer.number, joined.plan, version, out);
     tell(
         told,
         sent.number as u64,

@@ -3,10 +3,10 @@ ghost use Rattle.std.specs.Prelude.{◌≡◌, [], ◌∷◌, length};
 ghost use Rattle.c_plans.specs.Sent.{refused, sent_by, sent_after, left_after, widths_told};
 
 use list::Plan;
-use writer::Writing;
+use writer::WriteError;
 
-// The number, the length used, and the widths; zeros behind the number of a refusal.
-#[derive(Clone, Copy)]
+// The number, the length used, and the widths; zeros behind the number of a refusal. Kept as numbers: C is told them so.
+#[derive(Clone, Copy, Debug, PartialEq, Eq)]
 pub(crate) struct Sent {
     pub number: u8,
     pub length: usize,
@@ -25,18 +25,17 @@ fn refused(number: u8) -> Sent
     }
 }
 
-fn sent_by(plan: Plan, writing: Writing) -> Sent
+fn sent_by(plan: Plan, writing: Result<usize, WriteError>) -> Sent
     ensures { result ≡ sent_by plan writing }
 {
-    let number = writer::paper(writing).number;
-    if number != 0 {
-        return refused(number);
-    }
-    Sent {
-        number: 0,
-        length: writer::length(writing),
-        start: plan.start,
-        end: plan.end,
+    match writing {
+        Ok(length) => Sent {
+            number: 0,
+            length,
+            start: plan.start,
+            end: plan.end,
+        },
+        Err(e) => refused(writer::paper(Err(e)).number),
     }
 }
 

@@ -1,5 +1,3 @@
 -- Theorems: Refused (what a refused call leaves and tells), Determined.
 pub mod Refused
 pub mod Determined
--- the law of the calls
-pub mod Calls

@@ -6,12 +6,12 @@ use Rattle.c_told.specs.Told.{told_by}
 use Rattle.channels.specs.Channels.{Channels}
 use Rattle.block.specs.Block as Block
 use Rattle.block.specs.Block.{read_of}
-use Rattle.block.specs.declared.Reading.{Reading}
+use Rattle.block.specs.Block.{Reading}
 use Rattle.run.specs.Refusals as Run
 use Rattle.run.specs.Refusals.{outcome_of}
 use Rattle.run.specs.Report.{reported_of}
 use Rattle.run.specs.Run.{ran_of}
-use Rattle.run.specs.declared.Outcome.{Outcome}
+use Rattle.run.specs.Refusals.{Outcome}
 
 -- the reader's refusal, and else the run's answer
 abbrev pub answer_by : Reading → Outcome → Answer

@@ -1,23 +1,23 @@
 // The list of a plan block, run on three channels, as a C function.
+// Three slices, as C lends them.
 #![tactic(auto)]
 
 ghost use Rattle.std.specs.Prelude.{◌≡◌};
 ghost use Rattle.channels.specs.Channels.{channels};
 ghost use Rattle.c_run.specs.BlockRun.{answer_by, answer_of, left_of, told_of};
 
-use block::Reading;
+use block::ReadError;
 use notation::Answer;
-use run::Outcome;
+use run::RunError;
 
-// The reader's refusal comes before the run's.
-fn answer_by(reading: Reading, outcome: Outcome) -> Answer
+// The reader's refusal comes before the run's. As `c_strips` and `c_plans` have it of theirs: each contract names its own.
+fn answer_by(reading: Result<(), ReadError>, outcome: Result<u8, RunError>) -> Answer
     ensures { result ≡ answer_by reading outcome }
 {
-    let read = block::paper(reading);
-    if read.number == 0 {
-        return run::paper(outcome);
+    match reading {
+        Ok(()) => run::paper(outcome),
+        Err(e) => block::paper(Err(e)),
     }
-    read
 }
 
 // 0, or the number of the refusal; told are the number, the position, the width, and how many samples went bad.
@@ -33,12 +33,9 @@ pub extern "C" fn rindsaddle_run(
     ensures c_after { channels a.new b.new c.new ≡ left_of bytes.now (channels a.old b.old c.old) }
     ensures told_after { told.new ≡ told_of bytes.now (channels a.old b.old c.old) }
 {
-    let read = block::read(bytes);
-    let plan = read.plan;
-    let reading = read.answer;
-    let ran = run::run(plan, a, b, c);
-    let outcome = ran.outcome;
-    let answer = answer_by(reading, outcome);
+    let block = block::read(bytes);
+    let ran = run::run(block.plan, a, b, c);
+    let answer = answer_by(block.answer, ran.outcome);
     c_told::tell(told, answer, ran.bad);
     answer.number
 }

@@ -1,4 +1,5 @@
 // The executor's steps as C functions on numbers and slices.
+// Three slices, as C lends them.
 #![tactic(auto)]
 
 ghost use Rattle.std.specs.Prelude.{◌≡◌};
@@ -15,6 +16,7 @@ ghost use Rattle.c_steps.specs.Handed.{matrix_of, vector_of};
 
 use ciexyz::{Mat3, Vec3, Xy};
 
+// No From, here and below: both types are of other crates.
 fn vector_of(v: &[f32; 3]) -> Vec3
     ensures { result ≡ vector_of v.now }
 {

@@ -4,5 +4,3 @@ pub mod Standing
 pub mod Whole
 pub mod Refused
 pub mod Determined
--- the law of the calls
-pub mod Calls

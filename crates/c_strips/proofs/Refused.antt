@@ -1,5 +1,6 @@
 -- A refused opening leaves no open run; a refused strip changes no sample and not the words; a refused call tells width 0 and no bad sample; and
 -- without an open run every strip and close is refused by 11. By the tests in the definitions, and what is proved of the machine.
+use Rattle.std.specs.Prelude.{Ok, Err}
 use Prim.Native.Nat.{ℕ}
 use mathlib.Core.Path.{◌≡◌, refl}
 use mathlib.Core.List.{List, [], ◌∷◌}
@@ -7,34 +8,34 @@ use borrow.Author.Tests.{ne_eqb}
 use lib.ListN.{get_or}
 use Rattle.notation.specs.Answers.{answer}
 use Rattle.channels.specs.Channels.{Channels}
-use Rattle.judge.specs.declared.Judgement.{Judgement}
-use Rattle.judge.specs.declared.Judgement.TheVariants.{Ready, Malformed, Misfit, NotCarried}
+use Rattle.judge.specs.Judging.{Judgement}
+use Rattle.judge.specs.declared.JudgeError.TheVariants.{Malformed, Misfit, NotCarried}
 use Rattle.strips.specs.Machine.{paper, strip_of, close_of}
-use Rattle.strips.specs.declared.Stripping.{Stripping}
-use Rattle.strips.specs.declared.Stripping.TheVariants.{Done, NotOpen, Unequal}
+use Rattle.strips.specs.Machine.{Stripping}
+use Rattle.strips.specs.declared.StripError.TheVariants.{NotOpen, Unequal}
 use Rattle.strips.proofs.Refused.{refused-strip, refused-reports, refused-close_reports}
 use Rattle.block.specs.Block as Block
 use Rattle.block.specs.Block.{read_of}
-use Rattle.block.specs.declared.Reading.{Reading}
-use Rattle.block.specs.declared.Reading.TheVariants as R
+use Rattle.block.specs.Block.{Reading}
+use Rattle.block.specs.declared.ReadError.TheVariants as R
 use Rattle.c_told.specs.Told.{told_by}
 use Rattle.c_strips.specs.BlockStrips.{state_of, no_run, opened, open_by, open_answer, open_words, open_told, strip_answer, strip_words, strip_told, strip_left, close_answer, close_told}
 
 no_width : (r : Reading) (j : Judgement) → ¬ ((open_by r j).number ≡ 0) → (open_by r j).width ≡ 0
-no_width R.Done (Ready w) n = absurd (n refl)
-no_width R.Done Malformed n = refl
-no_width R.Done (Misfit i) n = refl
-no_width R.Done (NotCarried i) n = refl
-no_width R.Short j n = refl
-no_width R.WrongMark j n = refl
-no_width R.BadOp j n = refl
-no_width R.Malformed j n = refl
+no_width (Ok tt) (Ok w) n = absurd (n refl)
+no_width (Ok tt) (Err Malformed) n = refl
+no_width (Ok tt) (Err (Misfit i)) n = refl
+no_width (Ok tt) (Err (NotCarried i)) n = refl
+no_width (Err R.Short) j n = refl
+no_width (Err R.WrongMark) j n = refl
+no_width (Err R.BadOp) j n = refl
+no_width (Err R.Malformed) j n = refl
 
 -- neither a strip nor a close names a position
 nothing : (e : Stripping) (bad : ℕ) → ¬ ((paper e).number ≡ 0) → bad ≡ 0 → told_by (paper e) bad ≡ (paper e).number ∷ 0 ∷ 0 ∷ 0 ∷ []
-nothing (Done w) bad n z = absurd (n refl)
-nothing NotOpen bad n z = rw z
-nothing Unequal bad n z = rw z
+nothing (Ok w) bad n z = absurd (n refl)
+nothing (Err NotOpen) bad n z = rw z
+nothing (Err Unequal) bad n z = rw z
 
 module _ (bytes : List ℕ) where
   -- a block that the reader refuses is answered by the reader

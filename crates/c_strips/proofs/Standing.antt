@@ -1,5 +1,6 @@
 -- The words that a call leaves stand for the state that the machine's call leaves, so that what is proved of the machine is said of these calls.
 -- An accepted opening keeps the list that was read, which is padded with Clip already; an accepted strip keeps its list; a close leaves none.
+use Rattle.std.specs.Prelude.{Ok, Err}
 use Prim.Native.Nat.{ℕ}
 use mathlib.Core.Path.{◌≡◌, refl, ap, sym, ◌∙◌}
 use mathlib.Core.Bool.{Bool, true, false}
@@ -15,25 +16,25 @@ use Rattle.list.proofs.Building.{as-it-is, ops-of}
 use Rattle.list.proofs.Formed.{lawful-exactly}
 use Rattle.judge.specs.Judging as Judging
 use Rattle.judge.specs.Judging.{judge_of}
-use Rattle.judge.specs.declared.Judgement.{Judgement}
-use Rattle.judge.specs.declared.Judgement.TheVariants.{Ready, Malformed, Misfit, NotCarried}
+use Rattle.judge.specs.Judging.{Judgement}
+use Rattle.judge.specs.declared.JudgeError.TheVariants.{Malformed, Misfit, NotCarried}
 use Rattle.judge.proofs.Exactly.{zero-exactly}
 use Rattle.strips.specs.Machine.{paper, opened_by, open_of, answer_of, after_by, left_of, strip_of, close_of}
 use Rattle.strips.specs.declared.State.{State}
-use Rattle.strips.specs.declared.Stripping.{Stripping}
-use Rattle.strips.specs.declared.Stripping.TheVariants.{Done, NotOpen, Unequal}
+use Rattle.strips.specs.Machine.{Stripping}
+use Rattle.strips.specs.declared.StripError.TheVariants.{NotOpen, Unequal}
 use Rattle.block.specs.Fields.{byte_at}
 use Rattle.block.specs.Block.{read_of}
 use Rattle.block.specs.declared.Block.{Block}
-use Rattle.block.specs.declared.Reading.{Reading}
-use Rattle.block.specs.declared.Reading.TheVariants as R
+use Rattle.block.specs.Block.{Reading}
+use Rattle.block.specs.declared.ReadError.TheVariants as R
 use Rattle.block.proofs.Judging.{Judged, short, wrong, no_end, malformed, early, unreadable, false_end, done, judged}
 use Rattle.c_strips.specs.BlockStrips.{state_by, state_of, no_run, words_of, open_by, open_words, strip_words}
 
 -- ---- an opening
 
 -- a list of some ops that can be run is kept as it is
-kept : (start : ℕ) (os : List Op) (w : ℕ) → judge_of (plan_of start os) ≡ Ready w → plan_of start os ≡ appended (plan_of start os) []
+kept : (start : ℕ) (os : List Op) (w : ℕ) → judge_of (plan_of start os) ≡ Ok w → plan_of start os ≡ appended (plan_of start os) []
 kept start os w e =
     let p = plan_of start os in
     sym (ap (plan_of start) (ops-of start os)) ∙ as-it-is p ((lawful-exactly p).1 ((zero-exactly p w).0 (ap Judging.paper e)).0)
@@ -44,11 +45,11 @@ Stands r p j =
     let words = words_of (open_by r j).number (opened_by p j).bad no_run in
     state_by p (get_or words 0 0) (get_or words 1 0) ≡ opened_by p j
 
-by_judgement : (start : ℕ) (os : List Op) (j : Judgement) → judge_of (plan_of start os) ≡ j → Stands R.Done (plan_of start os) j
-by_judgement start os (Ready w) e = ap (λ (q : Plan). record { plan = q; bad = 0 }) (kept start os w e)
-by_judgement start os Malformed e = refl
-by_judgement start os (Misfit i) e = refl
-by_judgement start os (NotCarried i) e = refl
+by_judgement : (start : ℕ) (os : List Op) (j : Judgement) → judge_of (plan_of start os) ≡ j → Stands (Ok tt) (plan_of start os) j
+by_judgement start os (Ok w) e = ap (λ (q : Plan). record { plan = q; bad = 0 }) (kept start os w e)
+by_judgement start os (Err Malformed) e = refl
+by_judgement start os (Err (Misfit i)) e = refl
+by_judgement start os (Err (NotCarried i)) e = refl
 
 module _ (bytes : List ℕ) where
   stands : {b : Block} → Judged bytes b → Stands b.answer b.plan (judge_of b.plan)
@@ -70,20 +71,20 @@ module _ (bytes : List ℕ) where
 
   -- ---- a strip
 
-  after-stands : (z : State) (words : List ℕ) → state_of bytes words ≡ z → (e : Stripping) (left : Channels) → ((w : ℕ) → e ≡ Done w → p ≡ z.plan)
+  after-stands : (z : State) (words : List ℕ) → state_of bytes words ≡ z → (e : Stripping) (left : Channels) → ((w : ℕ) → e ≡ Ok w → p ≡ z.plan)
       → state_of bytes (words_of (paper e).number (after_by z e left).bad words) ≡ after_by z e left
-  after-stands z words h (Done w) left k = ap (λ (q : Plan). record { plan = q; bad = (after_by z (Done w) left).bad }) (k w refl)
-  after-stands z words h NotOpen left k = h
-  after-stands z words h Unequal left k = h
+  after-stands z words h (Ok w) left k = ap (λ (q : Plan). record { plan = q; bad = (after_by z (Ok w) left).bad }) (k w refl)
+  after-stands z words h (Err NotOpen) left k = h
+  after-stands z words h (Err Unequal) left k = h
 
   -- an accepted strip is one of the block's list
-  open-list : (words : List ℕ) (s : Channels) (w : ℕ) → answer_of (state_of bytes words) s ≡ Done w → p ≡ (state_of bytes words).plan
+  open-list : (words : List ℕ) (s : Channels) (w : ℕ) → answer_of (state_of bytes words) s ≡ Ok w → p ≡ (state_of bytes words).plan
   open-list words s w = by (eqb (get_or words 0 0) 1) refl
     where
-      by : (b : Bool) → eqb (get_or words 0 0) 1 ≡ b → answer_of (state_of bytes words) s ≡ Done w → p ≡ (state_of bytes words).plan
+      by : (b : Bool) → eqb (get_or words 0 0) 1 ≡ b → answer_of (state_of bytes words) s ≡ Ok w → p ≡ (state_of bytes words).plan
       by true h e = rw h
       by false h e =
-          let none : NotOpen ≡ answer_of (state_of bytes words) s = rw h in
+          let none : (Err NotOpen) ≡ answer_of (state_of bytes words) s = rw h in
           let n = ap (λ (r : Stripping). (paper r).number) (none ∙ e) in
           absurd (omega arith)
 

@@ -1,5 +1,6 @@
 -- "three equally long channels, cut anywhere at the same places, must end with the samples and width that a single run gives; the close answers the width"
 -- (02, W1), and "the sum over the accepted strips" (W4), of these calls: their words stand for the machine's states (Standing), of which it is proved.
+use Rattle.std.specs.Prelude.{Ok, Err}
 use Prim.Native.Nat.{ℕ}
 use mathlib.Core.Path.{◌≡◌, refl, ap, ◌∙◌}
 use mathlib.Core.List.{List, [], ◌∷◌, map}
@@ -11,7 +12,7 @@ use Rattle.channels.specs.Joined.{join_all}
 use Rattle.list.specs.declared.Plan.{Plan}
 use Rattle.judge.specs.Judging as Judging
 use Rattle.judge.specs.Judging.{judge_of}
-use Rattle.judge.specs.declared.Judgement.{Judgement}
+use Rattle.judge.specs.Judging.{Judgement}
 use Rattle.run.specs.Refusals as Run
 use Rattle.run.specs.Refusals.{outcome_of}
 use Rattle.run.specs.Report.{reported_of}
@@ -22,19 +23,19 @@ use Rattle.strips.specs.Calls as Machine
 use Rattle.strips.specs.declared.State.{State}
 use Rattle.strips.proofs.Whole as Strips
 use Rattle.block.specs.Block.{read_of}
-use Rattle.block.specs.declared.Reading.{Reading}
-use Rattle.block.specs.declared.Reading.TheVariants as R
+use Rattle.block.specs.Block.{Reading}
+use Rattle.block.specs.declared.ReadError.TheVariants as R
 use Rattle.c_strips.specs.BlockStrips.{state_of, open_by, open_answer, open_words, strip_words, close_answer}
 use Rattle.c_strips.specs.Sequences.{words_all, left_all}
 use Rattle.c_strips.proofs.Standing.{open-stands, strip-stands}
 
 -- an accepted opening is one whose list is judged so
 judged : (r : Reading) (j : Judgement) (w : ℕ) → open_by r j ≡ answer 0 0 w → Judging.paper j ≡ answer 0 0 w
-judged R.Done j w e = e
-judged R.Short j w e = let n = ap (λ (a : Answer). a.number) e in absurd (omega arith)
-judged R.WrongMark j w e = let n = ap (λ (a : Answer). a.number) e in absurd (omega arith)
-judged R.BadOp j w e = let n = ap (λ (a : Answer). a.number) e in absurd (omega arith)
-judged R.Malformed j w e = let n = ap (λ (a : Answer). a.number) e in absurd (omega arith)
+judged (Ok tt) j w e = e
+judged (Err R.Short) j w e = let n = ap (λ (a : Answer). a.number) e in absurd (omega arith)
+judged (Err R.WrongMark) j w e = let n = ap (λ (a : Answer). a.number) e in absurd (omega arith)
+judged (Err R.BadOp) j w e = let n = ap (λ (a : Answer). a.number) e in absurd (omega arith)
+judged (Err R.Malformed) j w e = let n = ap (λ (a : Answer). a.number) e in absurd (omega arith)
 
 module _ (bytes : List ℕ) where
   -- strips one after the other: the words stand for the machine's state, and the samples are those that it leaves

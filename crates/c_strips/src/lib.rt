@@ -1,4 +1,5 @@
 // A run by strips on the list of a plan block, as C functions. The caller lends at each call the block, and two words that are the state of the run.
+// Three slices, as C lends them.
 #![tactic(auto)]
 
 ghost use Rattle.std.specs.Prelude.{◌≡◌};
@@ -6,8 +7,8 @@ ghost use Rattle.channels.specs.Channels.{channels};
 ghost use Rattle.block.specs.Block.{read_of};
 ghost use Rattle.c_strips.specs.BlockStrips.{state_by, no_run, words_of, open_by, open_answer, open_words, open_told, strip_answer, strip_words, strip_told, strip_left, close_answer, close_told};
 
-use block::Reading;
-use judge::Judgement;
+use block::ReadError;
+use judge::JudgeError;
 use notation::Answer;
 use strips::State;
 
@@ -18,9 +19,10 @@ fn state_of(bytes: &[u8], first: u64, sum: u64) -> State
     if first != 1 {
         return strips::closed();
     }
-    let block = block::read(bytes);
-    let plan = block.plan;
-    State { plan, bad: sum }
+    State {
+        plan: block::read(bytes).plan,
+        bad: sum,
+    }
 }
 
 // The words of an open run; where the call was refused, those of a refused one.
@@ -33,15 +35,14 @@ fn words_of(number: u8, sum: u64, refused: [u64; 2]) -> [u64; 2]
     [1, sum]
 }
 
-// The reader's refusal comes before the opening's.
-fn open_by(reading: Reading, judgement: Judgement) -> Answer
+// The reader's refusal comes before the opening's, as in `c_run`.
+fn open_by(reading: Result<(), ReadError>, judgement: Result<u8, JudgeError>) -> Answer
     ensures { result ≡ open_by reading judgement }
 {
-    let read = block::paper(reading);
-    if read.number != 0 {
-        return read;
+    match reading {
+        Ok(()) => judge::paper(judgement),
+        Err(e) => block::paper(Err(e)),
     }
-    judge::paper(judgement)
 }
 
 // Opens a run with the list of a block, whatever was open; told are number, position, width, and 0.
@@ -52,13 +53,9 @@ pub extern "C" fn rindsaddle_open(bytes: &[u8], state: &mut [u64; 2], told: &mut
     ensures told_after { told.new ≡ open_told bytes.now }
 {
     let block = block::read(bytes);
-    let reading = block.answer;
-    let plan = block.plan;
-    let opened = strips::open(strips::closed(), plan);
-    let judgement = opened.answer;
-    let run = opened.state;
-    let answer = open_by(reading, judgement);
-    *state = words_of(answer.number, run.bad, [0, 0]);
+    let opened = strips::open(strips::closed(), block.plan);
+    let answer = open_by(block.answer, opened.answer);
+    *state = words_of(answer.number, opened.state.bad, [0, 0]);
     c_told::tell(told, answer, 0);
     answer.number
 }
@@ -81,10 +78,8 @@ pub extern "C" fn rindsaddle_strip(
     let words = *state;
     let before = state_of(bytes, words[0], words[1]);
     let stripped = strips::strip(before, a, b, c);
-    let stripping = stripped.answer;
-    let after = stripped.state;
-    let answer = strips::paper(stripping);
-    *state = words_of(answer.number, after.bad, words);
+    let answer = strips::paper(stripped.answer);
+    *state = words_of(answer.number, stripped.state.bad, words);
     c_told::tell(told, answer, stripped.bad);
     answer.number
 }
@@ -98,8 +93,7 @@ pub extern "C" fn rindsaddle_close(bytes: &[u8], state: &mut [u64; 2], told: &mu
 {
     let before = state_of(bytes, state[0], state[1]);
     let closed = strips::close(before);
-    let stripping = closed.answer;
-    let answer = strips::paper(stripping);
+    let answer = strips::paper(closed.answer);
     *state = [0, 0];
     c_told::tell(told, answer, closed.bad);
     answer.number

@@ -14,11 +14,9 @@ fn whole(h: u64) -> u64
     let mut square: u64 = 0;
     let mut remainder: u64 = 0;
     let mut rest = h;
-    let mut taken: u64 = 0;
-    while taken < 25 {
+    for _taken in 0..25u64 {
         let three = rest >> 48;
         rest = (rest - (three << 48)) << 3;
-        taken = taken + 1;
         remainder = (remainder << 3) + three;
         let trial = (square << 3) + (square << 2) + (y << 2) + (y << 1) + 1;
         if trial <= remainder {

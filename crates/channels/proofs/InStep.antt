@@ -1,7 +1,7 @@
 -- A loop that rewrites three equally long channels in step, each triple of samples by f, ends with `each f`.
 -- The loop argument is `Across`'s, in place and at f32.
 use Prim.Native.Nat.{◌+◌, ◌<◌, ℕ, ◌≤◌}
-use mathlib.Core.Path.{ap, refl, ◌≡◌}
+use mathlib.Core.Path.{ap, refl, subst, ◌≡◌}
 use mathlib.Core.List.{List, map}
 use native.Mathlib.Omega.{arith}
 use lib.ListN.{get_or, length, set}
@@ -41,3 +41,7 @@ module _ {f : Vec3 → Vec3} {x y z a b c : List Float} {i : ℕ} (s : Stepped f
 pub each-agrees : (f g : Vec3 → Vec3) (x y z : List Float) → EquallyLong (channels x y z) → ((i : ℕ) → i < length x → f (vec (get_or x i nan) (get_or y i nan) (get_or z i nan)) ≡ g (vec (get_or x i nan) (get_or y i nan) (get_or z i nan)))
     → each f (channels x y z) ≡ each g (channels x y z)
 each-agrees f g x y z e h = ap (λ (ts : List Vec3). channels (map v0_of ts) (map v1_of ts) (map v2_of ts)) (rows_agree vec f g nan x y z e.0 e.1 h)
+
+-- the same place, said otherwise
+pub at_place : {f : Vec3 → Vec3} {x y z a b c : List Float} {i j : ℕ} → i ≡ j → Stepped f x y z i a b c → Stepped f x y z j a b c
+at_place {f} {x} {y} {z} {a} {b} {c} e s = subst (λ (k : ℕ). Stepped f x y z k a b c) e s

@@ -1,11 +1,11 @@
 -- A loop that rewrites three equally long channels piece by piece, each triple of samples by f, ends as one that goes place by place.
 -- What f makes of a piece is that piece of what it makes of the whole; the piece that comes back is written over the one that was lent.
-use Prim.Native.Nat.{◌+◌, ◌-◌, ◌<◌, min, suc, zero, ℕ, ◌≤◌}
+use Prim.Native.Nat.{◌+◌, ◌-◌, suc, zero, ℕ, ◌≤◌}
 use mathlib.Core.Path.{ap, refl, sym, ◌∙◌, ◌≡◌}
 use mathlib.Core.List.{◌++◌, List, [], append_assoc, map, ◌∷◌}
 use native.Mathlib.Omega.{arith}
 use borrow.Rule.Slice.PartMut.{put_mid}
-use lib.ListN.{drop, length, length-append, length-drop, take}
+use lib.ListN.{drop, length, length-append, length-drop, length-take, take}
 use lib.Seq.{drop_at, drop-drop, length-take-le, take-add, take_at}
 use lib.Ieee.{Float}
 use Rattle.notation.proofs.Rewriting.{Rewritten}
@@ -13,18 +13,9 @@ use Rattle.ciexyz.specs.declared.Vec3.{Vec3}
 use Rattle.channels.specs.Channels.{EquallyLong, channels, each, triples, v0_of, v1_of, v2_of, vec, zip3}
 use Rattle.channels.proofs.InStep.{Stepped}
 
--- ---- how far the next piece goes
-pub record NextPiece (most j n m : ℕ) : Type 0 where
-  pub few : m ≤ most
-  pub fits : j + m ≤ n
-  pub falls : n - (j + m) < n - j
-
-pub next_piece : (most j n m : ℕ) → 0 < most → j < n → m ≡ min (n - j) most → NextPiece most j n m
-next_piece most j n m p h e = record { few = omega arith; fits = omega arith; falls = omega arith }
-
--- the room beside it, cut to its length
-pub room : (h : List Float) (m : ℕ) → length h ≡ 256 → m ≤ 256 → length (take (m - 0) h) ≡ m
-room h m e l = length-take-le (m - 0) h (omega arith) ∙ (omega arith)
+-- the room keeps its length where the front of it is written
+pub room_kept : (h g : List Float) (m : ℕ) → length h ≡ 256 → length g ≡ length (take m h) → length (g ++ drop m h) ≡ 256
+room_kept h g m e l = omega (arith, e, l, length-append g (drop m h), length-drop m h, length-take m h)
 
 -- ---- a piece of a list
 map-take : {A B : Type 0} (f : A → B) (x : List A) (n : ℕ) → map f (take n x) ≡ take n (map f x)

@@ -45,14 +45,3 @@ held-within n = by (leb n most) refl
     by : (b : Bool) → leb n most ≡ b → held n ≤ most
     by true e = let l = leb-true n most e in rw e l
     by false e = rw e (omega arith)
-
--- three counts, each held with those before it
-pub held-twice : (x y z : ℕ) {a b r : ℕ} → a ≡ held (0 + x) → b ≡ held (a + y) → r ≡ held (b + z) → r ≡ held (x + y + z)
-held-twice x y z {a} {b} {r} e f g =
-    g
-    ∙ ap (λ (k : ℕ). held (k + z)) (f ∙ ap (λ (k : ℕ). held (k + y)) e ∙ held_more (0 + x) y)
-    ∙ held_more (0 + x + y) z
-    ∙ ap held sum
-  where
-    sum : 0 + x + y + z ≡ x + y + z
-    sum = omega arith

@@ -1,7 +1,7 @@
 -- The count of channels that are joined is the sum of their counts.
 -- By induction on the first list.
 use Prim.Native.Nat.{ℕ, ◌+◌}
-use mathlib.Core.Path.{◌≡◌, refl}
+use mathlib.Core.Path.{◌≡◌, ap, refl, ◌∙◌}
 use mathlib.Core.Bool.{Bool, true, false}
 use mathlib.Core.List.{List, [], ◌∷◌, ◌++◌}
 use native.Mathlib.Omega.{arith}
@@ -14,6 +14,9 @@ use Rattle.counts.specs.Bad.{bad_if, bad_in, bad_within}
 pub in_joined : (xs ys : List Float) → bad_in (xs ++ ys) ≡ bad_in xs + bad_in ys
 in_joined [] ys = omega arith
 in_joined (x ∷ xs) ys = let rest = in_joined xs ys in omega (arith, rest)
+
+pub in_cut : {zs : List Float} (xs ys : List Float) → zs ≡ xs ++ ys → bad_in zs ≡ bad_in xs + bad_in ys
+in_cut xs ys e = ap bad_in e ∙ in_joined xs ys
 
 if_joined : (inside : Bool) (xs ys : List Float) → bad_if inside (xs ++ ys) ≡ bad_if inside xs + bad_if inside ys
 if_joined true xs ys = in_joined xs ys

@@ -1,8 +1,7 @@
 -- Theorems: Joined (counts of channels that are joined), Determined.
 pub mod Joined
 pub mod Determined
--- sums that are held, the loop over a channel, the test of a sample, and reports
+-- sums that are held, the loop over a channel, and the test of a sample
 pub mod Held
 pub mod Counting
 pub mod Infinite
-pub mod Reported

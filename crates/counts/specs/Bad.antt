@@ -1,12 +1,10 @@
 -- "how many samples in the channels within its given width are infinite or NaN after it. .. counts are held at 2^64 - 1. The number is defined from the
 -- samples left." (02, W4). Definitions only.
-use Rattle.std.specs.Prelude.{ℕ, ◌+◌, Bool, true, false, List, [], ◌∷◌, leb, Float}
+use Rattle.std.specs.Prelude.{ℕ, ◌+◌, Bool, true, false, List, [], ◌∷◌, leb, Ok, Err, Float}
 use Rattle.std.specs.Float.{nan, inf, fin}
 use Rattle.notation.specs.Choice.{when◌then◌else◌}
 use Rattle.channels.specs.Channels.{Channels, where_equal}
-use Rattle.channels.specs.Stepping.{step_of}
-use Rattle.channels.specs.declared.Stepping.{Stepping}
-use Rattle.channels.specs.declared.Stepping.TheVariants.{Done, Unequal}
+use Rattle.channels.specs.Stepping.{Stepping, step_of}
 use Rattle.counts.specs.declared.Stepped.{Stepped}
 
 -- "infinite or NaN"
@@ -40,8 +38,8 @@ count_of w s = held (bad_within w s)
 
 -- "Each carried op's own step is to report" it of the channels left, within the width that it gives; a refused step reports 0
 abbrev pub report_of : Stepping → Channels → Stepped
-report_of (Done w) left = record { answer = Done w; bad = count_of w left }
-report_of Unequal left = record { answer = Unequal; bad = 0 }
+report_of (Ok w) left = record { answer = Ok w; bad = count_of w left }
+report_of (Err e) left = record { answer = Err e; bad = 0 }
 
 -- of a step that gives width w, and by which f is made of equally long channels
 abbrev pub stepped_of : ℕ → (Channels → Channels) → Channels → Stepped

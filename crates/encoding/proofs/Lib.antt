@@ -5,3 +5,4 @@ pub mod OutOfRange
 pub mod Determined
 -- their laws
 pub mod Deciding
+mod Derived

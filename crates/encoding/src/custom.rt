@@ -4,8 +4,8 @@ ghost use Rattle.encoding.specs.Custom.{custom_white, custom_corners};
 
 use ciexyz::{Millionths, Primaries, WhitePoint};
 
-// The points of three custom primaries.
-#[derive(Clone, Copy)]
+// The points of three custom primaries. Beside `ciexyz::Triangle`: millionths here and floats there, and the contracts name both.
+#[derive(Clone, Copy, Debug, PartialEq, Eq)]
 pub struct Corners {
     pub red: Millionths,
     pub green: Millionths,
@@ -25,10 +25,8 @@ pub(crate) fn custom_white(w: WhitePoint) -> Millionths
     ensures { result ≡ custom_white w }
 {
     match w {
-        WhitePoint::D65 => ORIGIN,
-        WhitePoint::E => ORIGIN,
-        WhitePoint::Dci => ORIGIN,
         WhitePoint::Custom(p) => p,
+        _ => ORIGIN,
     }
 }
 
@@ -37,9 +35,7 @@ pub(crate) fn custom_corners(p: Primaries) -> Corners
     ensures { result ≡ custom_corners p }
 {
     match p {
-        Primaries::Srgb => NO_CORNERS,
-        Primaries::Bt2100 => NO_CORNERS,
-        Primaries::P3 => NO_CORNERS,
         Primaries::Custom { red, green, blue } => Corners { red, green, blue },
+        _ => NO_CORNERS,
     }
 }

@@ -15,7 +15,7 @@ pub use named::{is_equivalent, same_colour_space, same_intent, same_primaries, s
 use op::Curve;
 pub use ranges::in_range;
 
-#[derive(Clone, Copy)]
+#[derive(Clone, Copy, Debug, PartialEq, Eq)]
 pub enum ColourSpace {
     Rgb,
     Grey,
@@ -23,7 +23,7 @@ pub enum ColourSpace {
     Unknown,
 }
 
-#[derive(Clone, Copy)]
+#[derive(Clone, Copy, Debug, PartialEq, Eq)]
 pub enum RenderingIntent {
     Perceptual,
     Relative,
@@ -31,7 +31,7 @@ pub enum RenderingIntent {
     Absolute,
 }
 
-#[derive(Clone, Copy)]
+#[derive(Clone, Copy, Debug, PartialEq, Eq)]
 pub struct EnumColourEncoding {
     pub colour_space: ColourSpace,
     pub white_point: WhitePoint,
@@ -40,14 +40,14 @@ pub struct EnumColourEncoding {
     pub rendering_intent: RenderingIntent,
 }
 
-#[derive(Clone, Copy)]
+#[derive(Clone, Copy, Debug, PartialEq, Eq)]
 pub enum ColourEncoding {
     IccProfile,
     Enum(EnumColourEncoding),
 }
 
 // The inverse opsin matrix and its biases, the Rust's ToneMapping, and the flags of its builder.
-#[derive(Clone, Copy)]
+#[derive(Clone, Copy, Debug, PartialEq)]
 pub struct Settings {
     pub inv_mat: Mat3,
     pub opsin_bias: Vec3,
@@ -61,16 +61,15 @@ pub struct Settings {
 pub fn channels(e: EnumColourEncoding) -> u8
     ensures { result ≡ channels_of e }
 {
-    let colour_space = e.colour_space;
-    if same_colour_space(colour_space, ColourSpace::Grey) {
-        return 1;
+    if e.colour_space == ColourSpace::Grey {
+        1
+    } else {
+        3
     }
-    3
 }
 
 pub fn is_hdr(e: EnumColourEncoding) -> bool
     ensures { result ≡ is_hdr e }
 {
-    let tf = e.tf;
-    same::same_curve(tf, Curve::Pq) | same::same_curve(tf, Curve::Hlg)
+    matches!(e.tf, Curve::Pq | Curve::Hlg)
 }

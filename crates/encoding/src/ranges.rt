@@ -11,37 +11,34 @@ use op::Curve;
 fn coordinate_in_range(n: i32) -> bool
     ensures { result ≡ coordinate_in_range n }
 {
-    (-2097152 <= n) & (n <= 2097151)
+    matches!(n, -2_097_152..=2_097_151)
 }
 
 fn point_in_range(p: Millionths) -> bool
     ensures { result ≡ point_in_range p }
 {
-    coordinate_in_range(p.x) & coordinate_in_range(p.y)
+    coordinate_in_range(p.x) && coordinate_in_range(p.y)
 }
 
 fn corners_in_range(c: Corners) -> bool
     ensures { result ≡ corners_in_range c }
 {
-    point_in_range(c.red) & point_in_range(c.green) & point_in_range(c.blue)
+    point_in_range(c.red) && point_in_range(c.green) && point_in_range(c.blue)
 }
 
 fn gamma_in_range(tf: Curve) -> bool
     ensures { result ≡ gamma_in_range (gamma_of tf) }
 {
-    if let Curve::Gamma { g, .. } = tf {
-        return g <= 16777215;
+    match tf {
+        Curve::Gamma { g, .. } => g <= 16_777_215,
+        _ => true,
     }
-    true
 }
 
 pub fn in_range(e: EnumColourEncoding) -> bool
     ensures { result ≡ in_range e }
 {
-    let white_point = e.white_point;
-    let primaries = e.primaries;
-    let tf = e.tf;
-    point_in_range(custom_white(white_point))
-        & corners_in_range(custom_corners(primaries))
-        & gamma_in_range(tf)
+    point_in_range(custom_white(e.white_point))
+        && corners_in_range(custom_corners(e.primaries))
+        && gamma_in_range(e.tf)
 }

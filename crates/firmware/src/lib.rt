@@ -8,43 +8,31 @@ ghost use Rattle.firmware.specs.Conversion.{conversion_of, paper};
 use notation::Answer;
 use weights::Weights;
 
-// What a conversion answers.
-#[derive(Clone, Copy)]
-pub enum Conversion {
-    Done,
-    // Refusal 13: no such firmware, and nothing was changed.
+// Why a conversion is refused; nothing was changed then.
+#[derive(Clone, Copy, Debug, PartialEq, Eq)]
+pub enum ConversionError {
+    // Refusal 13: no such firmware.
     UnknownFirmware,
-    // Refusal 4: the lent lengths are unequal, and nothing was changed.
+    // Refusal 4: the lent lengths are unequal.
     Unequal,
 }
 
 // The paper's answer.
-pub fn paper(conversion: Conversion) -> Answer
+pub fn paper(conversion: Result<(), ConversionError>) -> Answer
     ensures { result ≡ paper conversion }
 {
     match conversion {
-        Conversion::Done => Answer {
-            number: 0,
-            position: 0,
-            width: 0,
-        },
-        Conversion::UnknownFirmware => Answer {
-            number: 13,
-            position: 0,
-            width: 0,
-        },
-        Conversion::Unequal => Answer {
-            number: 4,
-            position: 0,
-            width: 0,
-        },
+        Ok(()) => Answer::done(0),
+        Err(ConversionError::UnknownFirmware) => Answer::refused(13),
+        Err(ConversionError::Unequal) => Answer::refused(4),
     }
 }
 
+// A firmware stays a number: any may be named, from C too, and one that is not known is refused by 13.
 pub fn known_firmware(firmware: u32) -> bool
     ensures { result ≡ known_firmware firmware }
 {
-    (firmware >= 1) & (firmware <= 4)
+    matches!(firmware, 1..=4)
 }
 
 // 1 to 3 means T.871, 4 means BT.709.
@@ -58,14 +46,14 @@ pub fn weights_of(firmware: u32) -> Weights
 }
 
 // 13 first, then 4.
-pub fn judge(firmware: u32, equal: bool) -> Conversion
+pub fn judge(firmware: u32, equal: bool) -> Result<(), ConversionError>
     ensures { result ≡ conversion_of firmware equal }
 {
     if !known_firmware(firmware) {
-        return Conversion::UnknownFirmware;
+        return Err(ConversionError::UnknownFirmware);
     }
     if !equal {
-        return Conversion::Unequal;
+        return Err(ConversionError::Unequal);
     }
-    Conversion::Done
+    Ok(())
 }

@@ -2,7 +2,7 @@
 -- Both are scaled by the same power of two, and `sum` of equal fractions is equal.
 use mathlib.Core.Path.{ap, refl, sym, ◌∙◌, ◌≡◌}
 use mathlib.Core.Logic.{inl, inr, ◌⊎◌}
-use mathlib.Core.Bool.{◌&&◌, Bool, beq, cond, false, not, true}
+use mathlib.Core.Bool.{◌&&◌, Bool, false, not, true}
 use Prim.Native.Nat.{◌*◌, ◌+◌, ◌-◌, ◌/◌, ◌<◌, ◌^◌, ℕ, ◌≤◌}
 use native.Mathlib.Nat.{add_comm, add-zero, eq-or-lt_of_le, le_of_eq, le_of_lt, le_trans, lt_of_lt_of_le, lt_of_not-le, mul_assoc, mul-le-mul, mul-le-mul_right, mul-pos, mul_right_comm, not-le_of_lt, zero-add, zero-mul}
 use native.Mathlib.Omega.{arith}
@@ -59,13 +59,7 @@ sum-up s t a b A B p q =
     (ap (λ (x : ℕ). x * 2 ^ 298) p ∙ mul_assoc a (2 ^ 61) (2 ^ 298) ∙ ap (λ (x : ℕ). a * x) (sym (pow-add 2 61 298)))
     (ap (λ (x : ℕ). x * 2 ^ 298) q ∙ mul_assoc b (2 ^ 61) (2 ^ 298) ∙ ap (λ (x : ℕ). b * x) (sym (pow-add 2 61 298)))
 
--- by whether the signs are alike, with the first part no smaller, or the second
-pub in_order : (s t : Bool) (A B : ℕ) → cond (beq s t) (round binary32 s (A + B) (2 ^ 359)) (sum binary32 s A (not s) B (2 ^ 359)) ≡ sum binary32 s A t B (2 ^ 359)
-in_order true true A B = sym (sum_like binary32 true A B (2 ^ 359))
-in_order true false A B = refl
-in_order false true A B = refl
-in_order false false A B = sym (sum_like binary32 false A B (2 ^ 359))
-
+-- and of the two in the other order
 swap : (s : Bool) (A B : ℕ) → A ≤ B → sum binary32 s B (not s) A (2 ^ 359) ≡ sum binary32 (not s) A s B (2 ^ 359)
 swap s A B h = elim (eq-or-lt_of_le h) [
   | inl e ↦ ap (λ (x : ℕ). sum binary32 s B (not s) x (2 ^ 359)) e ∙ sum-none binary32 s B (2 ^ 359) ∙ sym (none' s B) ∙ ap (λ (x : ℕ). sum binary32 (not s) x s B (2 ^ 359)) (sym e)
@@ -76,11 +70,11 @@ swap s A B h = elim (eq-or-lt_of_le h) [
     none' true B = sum-none binary32 false B (2 ^ 359)
     none' false B = sum-none binary32 true B (2 ^ 359)
 
-pub out_of_order : (s t : Bool) (A B : ℕ) → A ≤ B → cond (beq s t) (round binary32 t (B + A) (2 ^ 359)) (sum binary32 t B (not t) A (2 ^ 359)) ≡ sum binary32 s A t B (2 ^ 359)
-out_of_order true true A B h = ap (λ (x : ℕ). round binary32 true x (2 ^ 359)) (add_comm B A) ∙ sym (sum_like binary32 true A B (2 ^ 359))
-out_of_order true false A B h = swap false A B h
-out_of_order false true A B h = swap true A B h
-out_of_order false false A B h = ap (λ (x : ℕ). round binary32 false x (2 ^ 359)) (add_comm B A) ∙ sym (sum_like binary32 false A B (2 ^ 359))
+pub exchanged : (s t : Bool) (A B : ℕ) → A ≤ B → sum binary32 t B s A (2 ^ 359) ≡ sum binary32 s A t B (2 ^ 359)
+exchanged true true A B h = sum_like binary32 true B A (2 ^ 359) ∙ ap (λ (x : ℕ). round binary32 true x (2 ^ 359)) (add_comm B A) ∙ sym (sum_like binary32 true A B (2 ^ 359))
+exchanged true false A B h = swap false A B h
+exchanged false true A B h = swap true A B h
+exchanged false false A B h = sum_like binary32 false B A (2 ^ 359) ∙ ap (λ (x : ℕ). round binary32 false x (2 ^ 359)) (add_comm B A) ∙ sym (sum_like binary32 false A B (2 ^ 359))
 
 -- the one that `below` calls smaller is
 pub ordered : (u v e f : ℕ) → sized u → sized v → Under u e v f → u * 2 ^ e ≤ v * 2 ^ f

@@ -15,20 +15,14 @@ pub fn mul_add(a: f32, b: f32, c: f32) -> f32
     ensures { result ≡ fused a b c }
 {
     // A NaN is not cast.
-    if a != a {
-        return whole::added(a, b, c);
-    }
-    if b != b {
-        return whole::added(a, b, c);
-    }
-    if c != c {
+    if a.is_nan() || b.is_nan() || c.is_nan() {
         return whole::added(a, b, c);
     }
     let s = (a as f64) * (b as f64) + (c as f64);
-    if s != s {
+    if s.is_nan() {
         return whole::added(a, b, c);
     }
-    if quick::is_clear(f64::to_bits(s)) {
+    if quick::is_clear(s.to_bits()) {
         return quick::narrow(s);
     }
     whole::added(a, b, c)

@@ -19,6 +19,7 @@ pub(crate) fn is_clear(w: u64) -> bool
 }
 
 // s rounded to 24 digits: u - s loses just what s has below them.
+#[tactic(auto, unfolding(rounding::specs::Steps::cut))]
 pub(crate) fn narrow(s: f64) -> f32
     requires { T (fits binary32 (cut s) && not (is_nan (cut s))) }
     ensures { result ≡ cut s }

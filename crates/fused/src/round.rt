@@ -4,29 +4,30 @@ ghost use Rattle.std.specs.Float.{binary32};
 ghost use Rattle.std.specs.Float.Ieee.{round};
 
 use crate::shift;
+use crate::shift::Num;
 
-// m * 2 ^ e / 2 ^ 421 with the sign s, for an m of 62 digits: past the largest f32, normal, subnormal, or nearer to 0.
-fn rounded(s: bool, m: u64, e: u64) -> f32
-    requires { (0x2000_0000_0000_0000 ≤ m) × (m < 0x4000_0000_0000_0000) }
-    ensures { result ≡ round binary32 s (m * 2 ^ e) (2 ^ 421) }
+// x over 2 ^ 421, for an m of 62 digits: past the largest f32, normal, subnormal, or nearer to 0.
+fn rounded(x: Num) -> f32
+    requires { (0x2000_0000_0000_0000 ≤ x.m) × (x.m < 0x4000_0000_0000_0000) }
+    ensures { result ≡ round binary32 x.negative (x.m * 2 ^ x.e) (2 ^ 421) }
 {
+    let Num { negative, m, e } = x;
     if e >= 488 {
-        binary32::put_together(s, 0x7f80_0000)
+        binary32::put_together(negative, 0x7f80_0000)
     } else if e >= 234 {
         // A carry out of the digits goes into the exponent's field by itself.
-        binary32::put_together(s, (e - 234) * 0x80_0000 + shift::near(m, 38))
+        binary32::put_together(negative, (e - 234) * 0x80_0000 + shift::near(m, 38))
     } else if e >= 209 {
-        binary32::put_together(s, shift::near(m, 272 - e))
+        binary32::put_together(negative, shift::near(m, 272 - e))
     } else {
-        binary32::put_together(s, 0)
+        binary32::put_together(negative, 0)
     }
 }
 
-// n * 2 ^ e / 2 ^ 359 with the sign s.
-pub(crate) fn settled(s: bool, n: u64, e: u64) -> f32
-    requires { (0 < n) × (n < 0x4000_0000_0000_0000) × (e < 2000) }
-    ensures { result ≡ round binary32 s (n * 2 ^ e) (2 ^ 359) }
+// x over 2 ^ 359.
+pub(crate) fn settled(x: Num) -> f32
+    requires { (0 < x.m) × (x.m < 0x4000_0000_0000_0000) × (x.e < 2000) }
+    ensures { result ≡ round binary32 x.negative (x.m * 2 ^ x.e) (2 ^ 359) }
 {
-    let x = shift::top(n, e);
-    rounded(s, x.m, x.e)
+    rounded(shift::top(x))
 }

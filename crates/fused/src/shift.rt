@@ -3,22 +3,25 @@ ghost use Rattle.std.specs.Prelude.{◌≡◌, ◌^◌, ◌<◌};
 ghost use Rattle.std.specs.Float.Ieee.Nearest.{closest};
 ghost use Rattle.fused.specs.Steps.{Topped, Jammed};
 
-// m * 2 ^ e
-#[derive(Clone, Copy)]
+// m * 2 ^ e with a sign. No invariant: each step has bounds of its own.
+#[derive(Clone, Copy, Debug, PartialEq, Eq)]
 pub(crate) struct Num {
+    pub negative: bool,
     pub m: u64,
     pub e: u64,
 }
 
-// n * 2 ^ (e + 62), with an m of 62 digits.
-pub(crate) fn top(n: u64, e: u64) -> Num
-    requires { (0 < n) × (n < 0x4000_0000_0000_0000) × (e < 2000) }
-    ensures { Topped n e result.m result.e }
+// x * 2 ^ 62, with an m of 62 digits.
+pub(crate) fn top(x: Num) -> Num
+    requires { (0 < x.m) × (x.m < 0x4000_0000_0000_0000) × (x.e < 2000) }
+    ensures sign { result.negative ≡ x.negative }
+    ensures size { Topped x.m x.e result.m result.e }
 {
-    let z = u64::leading_zeros(n) as u64 - 2;
+    let z = x.m.leading_zeros() as u64 - 2;
     Num {
-        m: n << z,
-        e: e + 62 - z,
+        m: x.m << z,
+        e: x.e + 62 - z,
+        ..x
     }
 }
 

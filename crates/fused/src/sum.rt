@@ -1,25 +1,25 @@
-// The sum of two numbers m * 2 ^ e, each with a sign, rounded once.
-ghost use Rattle.std.specs.Prelude.{◌≡◌, cond, not, ◌+◌, ◌*◌, ◌/◌, ◌^◌, ◌<◌, ◌≤◌};
+// The sum of two numbers, rounded once.
+ghost use Rattle.std.specs.Prelude.{◌≡◌, cond, ◌*◌, ◌/◌, ◌^◌, ◌<◌, ◌≤◌};
 ghost use Rattle.std.specs.Float.{binary32};
-ghost use Rattle.std.specs.Float.Ieee.{round, sum};
+ghost use Rattle.std.specs.Float.Ieee.{sum};
 ghost use Rattle.fused.specs.Steps.{sized, Under};
 
 use crate::shift::Num;
 use crate::{round, shift};
 
-// u * 2 ^ e with the sign s, plus or minus v * 2 ^ f, over 2 ^ 359. The first is no smaller.
-// A digit of v is lost only 2 places down or more, where the difference keeps 59 digits: the sticky digit stands for what was lost.
-fn merged(s: bool, u: u64, e: u64, like: bool, v: u64, f: u64) -> f32
-    requires { sized u × sized v × (f ≤ e) × (e < 2000) × (e ≡ f → v ≤ u) }
-    ensures { result ≡ cond like (round binary32 s (u * 2 ^ e + v * 2 ^ f) (2 ^ 359)) (sum binary32 s (u * 2 ^ e) (not s) (v * 2 ^ f) (2 ^ 359)) }
+// x + y over 2 ^ 359, where x is no smaller.
+// A digit of y is lost only 2 places down or more, where the difference keeps 59 digits: the sticky digit stands for what was lost.
+fn merged(x: Num, y: Num) -> f32
+    requires { sized x.m × sized y.m × (y.e ≤ x.e) × (x.e < 2000) × (x.e ≡ y.e → y.m ≤ x.m) }
+    ensures { result ≡ sum binary32 x.negative (x.m * 2 ^ x.e) y.negative (y.m * 2 ^ y.e) (2 ^ 359) }
 {
-    let w = shift::jam(v, e - f);
-    if like {
-        round::settled(s, u + w, e)
-    } else if u == w {
+    let w = shift::jam(y.m, x.e - y.e);
+    if x.negative == y.negative {
+        round::settled(Num { m: x.m + w, ..x })
+    } else if x.m == w {
         binary32::put_together(false, 0)
     } else {
-        round::settled(s, u - w, e)
+        round::settled(Num { m: x.m - w, ..x })
     }
 }
 
@@ -32,39 +32,40 @@ fn below(x: Num, y: Num) -> bool
 
 // A number of 62 digits with two zeros at its end, as one of 61 with one.
 fn half(x: Num) -> Num
-    ensures { (result.m ≡ x.m / 2) × (result.e ≡ x.e) }
+    ensures sign { result.negative ≡ x.negative }
+    ensures size { (result.m ≡ x.m / 2) × (result.e ≡ x.e) }
 {
-    Num { m: x.m / 2, e: x.e }
+    Num { m: x.m / 2, ..x }
 }
 
-// ±p * 2 ^ i ± q * 2 ^ j over 2 ^ 298, where neither is zero.
-fn aligned(s: bool, p: u64, i: u64, t: bool, q: u64, j: u64) -> f32
-    requires { (0 < p) × (p < 0x1_0000_0000_0000) × (0 < q) × (q < 0x1_0000_0000_0000) × (i < 1000) × (j < 1000) }
-    ensures { result ≡ sum binary32 s (p * 2 ^ i) t (q * 2 ^ j) (2 ^ 298) }
+// x + y over 2 ^ 298, where neither is zero.
+fn aligned(x: Num, y: Num) -> f32
+    requires { (0 < x.m) × (x.m < 0x1_0000_0000_0000) × (0 < y.m) × (y.m < 0x1_0000_0000_0000) × (x.e < 1000) × (y.e < 1000) }
+    ensures { result ≡ sum binary32 x.negative (x.m * 2 ^ x.e) y.negative (y.m * 2 ^ y.e) (2 ^ 298) }
 {
-    let x = half(shift::top(p, i));
-    let y = half(shift::top(q, j));
-    if below(x, y) {
-        merged(t, y.m, y.e, s == t, x.m, x.e)
+    let u = half(shift::top(x));
+    let v = half(shift::top(y));
+    if below(u, v) {
+        merged(v, u)
     } else {
-        merged(s, x.m, x.e, s == t, y.m, y.e)
+        merged(u, v)
     }
 }
 
 // The same where either may be zero: two zeros have a negative sum only where both are negative.
-pub(crate) fn added(s: bool, p: u64, i: u64, t: bool, q: u64, j: u64) -> f32
-    requires { (p < 0x1_0000_0000_0000) × (q < 0x1_0000_0000_0000) × (i < 1000) × (j < 1000) }
-    ensures { result ≡ sum binary32 s (p * 2 ^ i) t (q * 2 ^ j) (2 ^ 298) }
+pub(crate) fn added(x: Num, y: Num) -> f32
+    requires { (x.m < 0x1_0000_0000_0000) × (y.m < 0x1_0000_0000_0000) × (x.e < 1000) × (y.e < 1000) }
+    ensures { result ≡ sum binary32 x.negative (x.m * 2 ^ x.e) y.negative (y.m * 2 ^ y.e) (2 ^ 298) }
 {
-    if p == 0 {
-        if q == 0 {
-            binary32::put_together(s && t, 0)
+    if x.m == 0 {
+        if y.m == 0 {
+            binary32::put_together(x.negative && y.negative, 0)
         } else {
-            round::settled(t, q, j + 61)
+            round::settled(Num { e: y.e + 61, ..y })
         }
-    } else if q == 0 {
-        round::settled(s, p, i + 61)
+    } else if y.m == 0 {
+        round::settled(Num { e: x.e + 61, ..x })
     } else {
-        aligned(s, p, i, t, q, j)
+        aligned(x, y)
     }
 }

@@ -2,6 +2,7 @@
 ghost use Rattle.std.specs.Prelude.{◌≡◌};
 ghost use Rattle.fused.specs.Fused.{fused};
 
+use crate::shift::Num;
 use crate::sum;
 use binary32::Parts;
 
@@ -33,5 +34,15 @@ pub(crate) fn added(a: f32, b: f32, c: f32) -> f32
     else {
         return c;
     };
-    sum::added(s != t, m * n, i + j, u, o, k + 149)
+    let product = Num {
+        negative: s != t,
+        m: m * n,
+        e: i + j,
+    };
+    let addend = Num {
+        negative: u,
+        m: o,
+        e: k + 149,
+    };
+    sum::added(product, addend)
 }

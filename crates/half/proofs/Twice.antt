@@ -1,11 +1,11 @@
 -- The test whether n bytes widen to m holds exactly where m is 2n, or 2n - 1 and n is not 0; that is exactly where m bytes narrow to n, (m + 1)/2.
 -- The test is two equations over whole numbers.
 use Prim.Native.Nat.{ℕ, ◌+◌, ◌-◌, ◌*◌, ◌/◌, ◌<◌}
-use mathlib.Core.Path.{◌≡◌, refl, sym}
+use mathlib.Core.Path.{◌≡◌, refl}
 use mathlib.Core.Bool.{Bool, true, false}
 use mathlib.Core.Logic.{◌↔◌, ◌⊎◌, inl, inr}
 use native.Mathlib.Omega.{arith}
-use borrow.Author.Tests.{eq-eqb, eqb-false, eqb-true, ne_eqb}
+use borrow.Author.Tests.{eq-eqb, eqb-false, eqb-true}
 use lib.Dec.{eqb}
 use Rattle.notation.proofs.Tests.{either-exactly}
 use Rattle.half.specs.Twice.{FitsTwice, fits_twice, one_less, two_each}
@@ -35,13 +35,3 @@ halves_exactly n m = (λ e. by ((equations n m).0 e), λ e. (equations n m).1 (b
     back : (b : Bool) → eqb m (2 * n) ≡ b → n ≡ (m + 1) / 2 → (m ≡ 2 * n) ⊎ (m + 1 ≡ 2 * n)
     back true e h = inl (eqb-true m (2 * n) e)
     back false e h = let u = eqb-false m (2 * n) e in inr (omega arith)
-
--- a test of one equation, by which the code tells the same
-pub told-by : (n m k : ℕ) → k ≡ (m + 1) / 2 → eqb k n ≡ fits_twice n m
-told-by n m k h = by (eqb k n) refl
-  where
-    by : (b : Bool) → eqb k n ≡ b → b ≡ fits_twice n m
-    by true e = let x = eqb-true k n e in sym ((halves_exactly n m).1 (omega arith))
-    by false e =
-        let x = eqb-false k n e in
-        rw (ne_eqb m (2 * n) (λ (y : m ≡ 2 * n). x (omega arith)), ne_eqb (m + 1) (2 * n) (λ (y : m + 1 ≡ 2 * n). x (omega arith)))

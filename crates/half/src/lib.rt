@@ -10,29 +10,17 @@ ghost use Rattle.half.specs.Fitting.{narrowed_into, narrowing, paper, widened_in
 
 use notation::Answer;
 
-// What widening or narrowing answers.
-#[derive(Clone, Copy)]
-pub enum Fitting {
-    Done,
-    // Refusal 4: the lent lengths do not fit, and nothing was changed.
-    Unfit,
-}
+// Refusal 4: the lent lengths do not fit, and nothing was changed. A type of its own beside `channels::Unequal`: what fits here are no equal lengths.
+#[derive(Clone, Copy, Debug, PartialEq, Eq)]
+pub struct Unfit;
 
 // The paper's answer.
-pub fn paper(fitting: Fitting) -> Answer
+pub fn paper(fitting: Result<(), Unfit>) -> Answer
     ensures { result ≡ paper fitting }
 {
     match fitting {
-        Fitting::Done => Answer {
-            number: 0,
-            position: 0,
-            width: 0,
-        },
-        Fitting::Unfit => Answer {
-            number: 4,
-            position: 0,
-            width: 0,
-        },
+        Ok(()) => Answer::done(0),
+        Err(Unfit) => Answer::refused(4),
     }
 }
 
@@ -40,13 +28,11 @@ pub fn paper(fitting: Fitting) -> Answer
 pub fn fits_twice(n: usize, m: usize) -> bool
     ensures { result ≡ fits_twice n m }
 {
-    if m % 2 == 0 {
-        return m / 2 == n;
-    }
-    m / 2 + 1 == n
+    m.div_ceil(2) == n
 }
 
 // (3a + b)/4 to the nearest, halves upward.
+#[tactic(auto, unfolding(crate::specs::Widening::mix_of, nearest::specs::Nearest::byte_of))]
 fn mix(a: u8, b: u8) -> u8
     ensures { result ≡ mix_of a b }
 {
@@ -60,15 +46,10 @@ fn beside(n: usize, j: usize) -> usize
 {
     let i = j / 2;
     if j % 2 == 0 {
-        if i == 0 {
-            return 0;
-        }
-        return i - 1;
+        i.saturating_sub(1)
+    } else {
+        (i + 1).min(n - 1)
     }
-    if i + 1 == n {
-        return i;
-    }
-    i + 1
 }
 
 // Output j, and 0 where there is none.
@@ -82,22 +63,21 @@ pub fn output_at(c: &[u8], j: usize) -> u8
     0
 }
 
-pub fn widen(c: &[u8], out: &mut [u8]) -> Fitting
+pub fn widen(c: &[u8], out: &mut [u8]) -> Result<(), Unfit>
     ensures value { result ≡ widening c.now out.old }
     ensures out_after { out.new ≡ widened_into c.now out.old }
 {
     if !fits_twice(c.len(), out.len()) {
-        return Fitting::Unfit;
+        return Err(Unfit);
     }
-    let mut j: usize = 0;
-    while j < out.len() {
-        out[j] = output_at(c, j);
-        j += 1;
+    for (j, byte) in out.iter_mut().enumerate() {
+        *byte = output_at(c, j);
     }
-    Fitting::Done
+    Ok(())
 }
 
 // (a + b)/2 to the nearest, halves upward.
+#[tactic(auto, unfolding(crate::specs::Narrowing::mean_of, nearest::specs::Nearest::byte_of))]
 fn mean(a: u8, b: u8) -> u8
     ensures { result ≡ mean_of a b }
 {
@@ -116,17 +96,16 @@ fn narrowed_at(c: &[u8], i: usize) -> u8
     c[j]
 }
 
-pub fn narrow(c: &[u8], out: &mut [u8]) -> Fitting
+// Kept apart from `widen`: what the two share is a loop of one line.
+pub fn narrow(c: &[u8], out: &mut [u8]) -> Result<(), Unfit>
     ensures value { result ≡ narrowing c.now out.old }
     ensures out_after { out.new ≡ narrowed_into c.now out.old }
 {
     if !fits_twice(out.len(), c.len()) {
-        return Fitting::Unfit;
+        return Err(Unfit);
     }
-    let mut i: usize = 0;
-    while i < out.len() {
-        out[i] = narrowed_at(c, i);
-        i += 1;
+    for (i, byte) in out.iter_mut().enumerate() {
+        *byte = narrowed_at(c, i);
     }
-    Fitting::Done
+    Ok(())
 }

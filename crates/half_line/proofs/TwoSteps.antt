@@ -5,24 +5,23 @@ use mathlib.Core.Path.{◌≡◌, ap, refl, sym, ◌∙◌}
 use mathlib.Core.Bool.{Bool, true, false, ◌&&◌}
 use mathlib.Core.Logic.{◌⊎◌, inl, inr}
 use mathlib.Core.List.{List}
-use native.Mathlib.Omega.{arith}
 use lib.ListN.{length}
+use Rattle.std.specs.Prelude.{Ok, Err}
 use Rattle.weights.specs.Rgb.{rgb_of}
 use Rattle.firmware.specs.Firmware.{weights_of}
 use Rattle.firmware.specs.Conversion.{conversion_of, left_by}
 use Rattle.planes.specs.Planes.{Planes, each_pixel, equally_long, planes, same_lengths}
 use Rattle.half.specs.Twice.{fits_twice}
 use Rattle.half.specs.Fitting.{fitting_of, widened_into, widening}
-use Rattle.half.specs.declared.Fitting.TheVariants.{Done, Unfit}
 use Rattle.half_line.specs.Line.{line_fits, widened_both}
 use Rattle.half_line.proofs.Exactly.{as_long}
 
-done-fits : (fits : Bool) → fitting_of fits ≡ Done → fits ≡ true
+done-fits : (fits : Bool) → fitting_of fits ≡ Ok tt → fits ≡ true
 done-fits true e = refl
-done-fits false e = absurd (let z : ◌≡◌ {A = ℕ} 0 1 = cc in omega arith)
+done-fits false e = cc
 
-unfit_not : (fits : Bool) → fitting_of fits ≡ Unfit → fits ≡ false
-unfit_not true e = absurd (let z : ◌≡◌ {A = ℕ} 0 1 = cc in omega arith)
+unfit_not : (fits : Bool) → fitting_of fits ≡ Err (record {}) → fits ≡ false
+unfit_not true e = cc
 unfit_not false e = refl
 
 by_lengths : (a c y r g b : ℕ) → a ≡ y → c ≡ y → same_lengths y y y r g b ≡ same_lengths a y c r g b
@@ -34,7 +33,7 @@ module _ (firmware : ℕ) (s t : Planes) (u v : List ℕ) (as-u : length u ≡ l
   between = planes (widened_into s.a u) s.b (widened_into s.c v)
 
   -- where both are widened
-  module _ (cb : widening s.a u ≡ Done) (cr : widening s.c v ≡ Done) where
+  module _ (cb : widening s.a u ≡ Ok tt) (cr : widening s.c v ≡ Ok tt) where
     is-both : between ≡ widened_both s
     is-both = rw (cb, cr, as-u, as-v)
 
@@ -54,7 +53,7 @@ module _ (firmware : ℕ) (s t : Planes) (u v : List ℕ) (as-u : length u ≡ l
     same_left = rw same_test (ap (λ (p : Planes). left_by (conversion_of firmware (equally_long between t)) (each_pixel (rgb_of (weights_of firmware)) p) t) (sym is-both))
 
   -- where a widening is refused by 4 the lengths of the line do not fit
-  pub refused-alike : (widening s.a u ≡ Unfit) ⊎ (widening s.c v ≡ Unfit) → line_fits s t ≡ false
+  pub refused-alike : (widening s.a u ≡ Err (record {})) ⊎ (widening s.c v ≡ Err (record {})) → line_fits s t ≡ false
   refused-alike (inl e) = let f : fits_twice (length s.a) (length s.b) ≡ false = rw (sym as-u) (unfit_not _ e) in rw f
   refused-alike (inr e) =
       let f : fits_twice (length s.c) (length s.b) ≡ false = rw (sym as-v) (unfit_not _ e) in

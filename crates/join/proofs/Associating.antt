@@ -1,5 +1,6 @@
 -- Joining is associative where neither side is refused, and the empty list of the right width is its unit on either side.
 -- A side that is not refused has three lists behind one another; a refused inner join is no list, and the outer one is refused too.
+use Rattle.std.specs.Prelude.{Ok, Err}
 use Prim.Native.Nat.{ℕ}
 use mathlib.Core.Path.{◌≡◌, refl, ap, sym, subst, ◌∙◌}
 use mathlib.Core.List.{List, [], ◌++◌, append_assoc, append-nil}
@@ -13,8 +14,8 @@ use Rattle.list.specs.Check.{check_of}
 use Rattle.list.specs.Fits.{Fits, none, more}
 use Rattle.list.specs.Lists.{ops_of, plan_of, no_list, Lawful}
 use Rattle.list.specs.declared.Plan.{Plan}
-use Rattle.list.specs.declared.Verdict.{Verdict}
-use Rattle.list.specs.declared.Verdict.TheVariants.{Passes, Malformed, Misfit}
+use Rattle.list.specs.Check.{Verdict}
+use Rattle.list.specs.declared.CheckError.TheVariants.{Malformed, Misfit}
 use Rattle.list.proofs.Building.{plan-true}
 use Rattle.list.proofs.EndWidth.{passes-with-end}
 use Rattle.list.proofs.Exactly.{passes-exactly}
@@ -37,14 +38,14 @@ pub not_refused : (p q : Plan) → Lawful (join_of p q).plan → (w : ℕ) × (p
 not_refused p q = by (verdict_of p q)
   where
     by : (v : Verdict) → Lawful (joined_by v p q) → (w : ℕ) × (paper v ≡ answer 0 0 w)
-    by (Passes w) l = (w, refl)
-    by Malformed l = absurd (none_refused l)
-    by (Misfit i) l = absurd (none_refused l)
+    by (Ok w) l = (w, refl)
+    by (Err Malformed) l = absurd (none_refused l)
+    by (Err (Misfit i)) l = absurd (none_refused l)
 
 -- a join that is not refused, whole
-whole : (p q : Plan) (w : ℕ) → paper (join_of p q).answer ≡ answer 0 0 w → join_of p q ≡ joined (Passes q.end) (plan_of p.start (ops_of p ++ ops_of q))
+whole : (p q : Plan) (w : ℕ) → paper (join_of p q).answer ≡ answer 0 0 w → join_of p q ≡ joined (Ok q.end) (plan_of p.start (ops_of p ++ ops_of q))
 whole p q w e =
-    let a = is-given p q (Passes w) ((zero-exactly p q w).0 e) ∙ ap Passes (ends-as-second p q w e) in
+    let a = is-given p q (Ok w) ((zero-exactly p q w).0 e) ∙ ap Ok (ends-as-second p q w e) in
     ap (λ (v : Verdict). joined v (joined_by v p q)) a
 
 pub associates : (p q r : Plan) (v w : ℕ) → paper (join_of (join_of p q).plan r).answer ≡ answer 0 0 v → paper (join_of p (join_of q r).plan).answer ≡ answer 0 0 w
@@ -54,12 +55,12 @@ associates p q r v w left right =
     let last = not_refused q r ((zero-exactly p (join_of q r).plan w).0 right).0.1 in
     let starts = ap (λ (j : Plan). j.start) (is-joined p q first.0 first.1) in
     whole (join_of p q).plan r v left
-    ∙ ap (λ (s : ℕ). joined (Passes r.end) (plan_of s (ops_of (join_of p q).plan ++ ops_of r))) starts
-    ∙ ap (λ (os : List Op). joined (Passes r.end) (plan_of p.start (os ++ ops_of r))) (ops-joined p q first.0 first.1)
-    ∙ ap (λ (os : List Op). joined (Passes r.end) (plan_of p.start os)) (append_assoc (ops_of p) (ops_of q) (ops_of r))
+    ∙ ap (λ (s : ℕ). joined (Ok r.end) (plan_of s (ops_of (join_of p q).plan ++ ops_of r))) starts
+    ∙ ap (λ (os : List Op). joined (Ok r.end) (plan_of p.start (os ++ ops_of r))) (ops-joined p q first.0 first.1)
+    ∙ ap (λ (os : List Op). joined (Ok r.end) (plan_of p.start os)) (append_assoc (ops_of p) (ops_of q) (ops_of r))
     ∙ sym (whole p (join_of q r).plan w right
-    ∙ ap (λ (os : List Op). joined (Passes (join_of q r).plan.end) (plan_of p.start (ops_of p ++ os))) (ops-joined q r last.0 last.1)
-    ∙ ap (λ (e : ℕ). joined (Passes e) (plan_of p.start (ops_of p ++ (ops_of q ++ ops_of r)))) (holds-the-end q r last.0 last.1))
+    ∙ ap (λ (os : List Op). joined (Ok (join_of q r).plan.end) (plan_of p.start (ops_of p ++ os))) (ops-joined q r last.0 last.1)
+    ∙ ap (λ (e : ℕ). joined (Ok e) (plan_of p.start (ops_of p ++ (ops_of q ++ ops_of r)))) (holds-the-end q r last.0 last.1))
 
 -- ---- the empty list
 
@@ -89,21 +90,21 @@ empty-lawful s h = ((h, omega arith), plan-true s [])
 
 module _ (p : Plan) (w : ℕ) (passes : paper (check_of p) ≡ answer 0 0 w) where
   -- the empty list that starts where a list does, before it: the list, as we return it
-  pub empty-first : join_of (plan_of p.start []) p ≡ joined (Passes w) (plan_of p.start (ops_of p))
+  pub empty-first : join_of (plan_of p.start []) p ≡ joined (Ok w) (plan_of p.start (ops_of p))
   empty-first =
       let l = (passes-exactly p w).0 passes in
       let n = l.0.0.1 in
       let j : Joinable (plan_of p.start []) p = (empty-lawful p.start l.0.0.0, l.0, omega arith) in
-      ap (λ (v : Verdict). joined v (joined_by v (plan_of p.start []) p)) (is-given (plan_of p.start []) p (Passes w) (j, none, l.1))
+      ap (λ (v : Verdict). joined v (joined_by v (plan_of p.start []) p)) (is-given (plan_of p.start []) p (Ok w) (j, none, l.1))
 
   -- the empty list of its end width, behind it
-  pub empty-second : join_of p (plan_of p.end []) ≡ joined (Passes w) (plan_of p.start (ops_of p))
+  pub empty-second : join_of p (plan_of p.end []) ≡ joined (Ok w) (plan_of p.start (ops_of p))
   empty-second =
       let l = (passes-exactly p w).0 passes in
       let n = l.0.0.1 in
       let e : w ≡ p.end = ((passes-with-end p w).0 passes).2 in
       let f : Fits p.start (ops_of p) p.end = subst (Fits p.start (ops_of p)) e l.1 in
       let j : Joinable p (plan_of p.end []) = (l.0, empty-lawful p.end (ends f l.0.0.0), omega arith) in
-      ap (λ (v : Verdict). joined v (joined_by v p (plan_of p.end []))) (is-given p (plan_of p.end []) (Passes p.end) (j, f, none))
-      ∙ ap (λ (u : ℕ). joined (Passes u) (plan_of p.start (ops_of p ++ []))) (sym e)
-      ∙ ap (λ (os : List Op). joined (Passes w) (plan_of p.start os)) (append-nil (ops_of p))
+      ap (λ (v : Verdict). joined v (joined_by v p (plan_of p.end []))) (is-given p (plan_of p.end []) (Ok p.end) (j, f, none))
+      ∙ ap (λ (u : ℕ). joined (Ok u) (plan_of p.start (ops_of p ++ []))) (sym e)
+      ∙ ap (λ (os : List Op). joined (Ok w) (plan_of p.start os)) (append-nil (ops_of p))

@@ -7,5 +7,4 @@ pub mod Sides
 pub mod Determined
 -- their laws, and those of the loop
 pub mod Answered
-pub mod Refused
 pub mod Turn

@@ -1,5 +1,6 @@
 -- "A join not refused passes the check with the second list's end width", and its end width is true. (02, W12)
 -- The ops of the first lead to the second's start width, and those of the second from there to its end width.
+use Rattle.std.specs.Prelude.{Ok, Err}
 use Prim.Native.Nat.{ℕ}
 use mathlib.Core.Path.{◌≡◌, refl, ap, sym, subst, ◌∙◌}
 use mathlib.Core.List.{List, ◌++◌}
@@ -12,8 +13,8 @@ use Rattle.list.specs.Check.{check_of}
 use Rattle.list.specs.Fits.{Fits, none, more}
 use Rattle.list.specs.Lists.{ops_of, plan_of, appended, Formed, Lawful, True}
 use Rattle.list.specs.declared.Plan.{Plan}
-use Rattle.list.specs.declared.Verdict.{Verdict}
-use Rattle.list.specs.declared.Verdict.TheVariants.{Passes, Malformed, Misfit}
+use Rattle.list.specs.Check.{Verdict}
+use Rattle.list.specs.declared.CheckError.TheVariants.{Malformed, Misfit}
 use Rattle.list.proofs.Building.{few, ops-of, plan-true}
 use Rattle.list.proofs.EndWidth.{passes-with-end}
 use Rattle.list.proofs.Formed.{formed-exactly, lawful-exactly}
@@ -43,7 +44,7 @@ module _ (p q : Plan) where
 
   module _ (w : ℕ) (passed : paper (join_of p q).answer ≡ answer 0 0 w) where
     pub is-joined : (join_of p q).plan ≡ plan_of p.start (ops_of p ++ ops_of q)
-    is-joined = rw (is-given p q (Passes w) ((zero-exactly p q w).0 passed))
+    is-joined = rw (is-given p q (Ok w) ((zero-exactly p q w).0 passed))
 
     pub ops-joined : ops_of (join_of p q).plan ≡ ops_of p ++ ops_of q
     ops-joined = ap ops_of is-joined ∙ ops-of p.start (ops_of p ++ ops_of q)
@@ -70,6 +71,6 @@ module _ (p q : Plan) where
   join-true = by (verdict_of p q)
     where
       by : (v : Verdict) → True (joined_by v p q)
-      by (Passes w) = plan-true p.start (ops_of p ++ ops_of q)
-      by Malformed = refl
-      by (Misfit i) = refl
+      by (Ok w) = plan-true p.start (ops_of p ++ ops_of q)
+      by (Err Malformed) = refl
+      by (Err (Misfit i)) = refl

@@ -1,10 +1,10 @@
 -- When joining is refused by 10, when by 5 and at which position, and when not: in words, apart from the verdict. Relations only.
-use Rattle.std.specs.Prelude.{ℕ, ◌+◌, ◌≤◌, ◌<◌, ◌≡◌, ◌⊎◌}
+use Rattle.std.specs.Prelude.{ℕ, ◌+◌, ◌≤◌, ◌<◌, ◌≡◌, ◌⊎◌, Ok, Err}
 use Rattle.list.specs.Fits.{Fits, FailsAt}
 use Rattle.list.specs.Lists.{ops_of, Lawful, Unlawful}
 use Rattle.list.specs.declared.Plan.{Plan}
-use Rattle.list.specs.declared.Verdict.{Verdict}
-use Rattle.list.specs.declared.Verdict.TheVariants.{Passes, Malformed, Misfit}
+use Rattle.list.specs.Check.{Verdict}
+use Rattle.list.specs.declared.CheckError.TheVariants.{Malformed, Misfit}
 
 -- "10 for either list or a joint count above 32", and when that does not hold
 abbrev pub Unjoinable : Plan → Plan → Type 0
@@ -24,6 +24,6 @@ pub data Breaks (p q : Plan) : ℕ → Type 0 where
 
 -- what each verdict says of the two lists
 abbrev pub Given : Plan → Plan → Verdict → Type 0
-Given p q Malformed = Unjoinable p q
-Given p q (Misfit k) = Joinable p q × Breaks p q k
-Given p q (Passes w) = Joinable p q × Fits p.start (ops_of p) q.start × Fits q.start (ops_of q) w
+Given p q (Err Malformed) = Unjoinable p q
+Given p q (Err (Misfit k)) = Joinable p q × Breaks p q k
+Given p q (Ok w) = Joinable p q × Fits p.start (ops_of p) q.start × Fits q.start (ops_of q) w

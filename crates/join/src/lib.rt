@@ -1,16 +1,16 @@
 // Joining: one list behind another.
 #![tactic(auto)]
 
-ghost use Rattle.std.specs.Prelude.{◌≡◌, map, ◌≤◌, take};
+ghost use Rattle.std.specs.Prelude.{◌≡◌, map, ◌≤◌};
 ghost use Rattle.list.specs.Lists.{op_of, appended};
 ghost use Rattle.join.specs.Join.{meeting, joinable, verdict_of, join_of};
 
-use list::{Plan, Slot, Verdict};
+use list::{CheckError, Plan, Slot};
 
-// What joining answers; the list of a refused join is the empty list with width 0.
-#[derive(Clone, Copy)]
+// What joining answers, and the list: of a refused join the empty list with width 0, as 01 says.
+#[derive(Clone, Copy, Debug)]
 pub struct Joined {
-    pub answer: Verdict,
+    pub answer: Result<u8, CheckError>,
     pub plan: Plan,
 }
 
@@ -18,61 +18,44 @@ pub struct Joined {
 fn joinable(first: Plan, second: Plan) -> bool
     ensures { result ≡ joinable first second }
 {
-    if !list::lawful(first) {
-        return false;
-    }
-    if !list::lawful(second) {
-        return false;
-    }
-    first.count + second.count <= 32
+    list::lawful(first) && list::lawful(second) && first.count + second.count <= 32
 }
 
 // What is answered where the first list ends at this width.
-fn meeting(width: u8, first: Plan, second: Plan) -> Verdict
+fn meeting(width: u8, first: Plan, second: Plan) -> Result<u8, CheckError>
     requires { first.count ≤ 32 }
     ensures { result ≡ meeting width first second }
 {
-    let count = first.count;
     if width != second.start {
-        return Verdict::Misfit { position: count };
+        let position = first.count;
+        return Err(CheckError::Misfit { position });
     }
-    let verdict = list::check(second);
-    match verdict {
-        Verdict::Passes { width: end } => Verdict::Passes { width: end },
-        Verdict::Malformed => Verdict::Malformed,
-        Verdict::Misfit { position } => Verdict::Misfit {
-            position: count + position,
-        },
+    match list::check(second) {
+        Err(CheckError::Misfit { position }) => Err(CheckError::Misfit {
+            position: first.count + position,
+        }),
+        answer => answer,
     }
 }
 
 // 10 first, then 5 in the joined order.
-fn verdict_of(first: Plan, second: Plan) -> Verdict
+fn verdict_of(first: Plan, second: Plan) -> Result<u8, CheckError>
     ensures { result ≡ verdict_of first second }
 {
     if !joinable(first, second) {
-        return Verdict::Malformed;
+        return Err(CheckError::Malformed);
     }
-    let verdict = list::check(first);
-    match verdict {
-        Verdict::Passes { width } => meeting(width, first, second),
-        Verdict::Malformed => Verdict::Malformed,
-        Verdict::Misfit { position } => Verdict::Misfit { position },
-    }
+    let width = list::check(first)?;
+    meeting(width, first, second)
 }
 
 // The list with these ops behind its own, one after the other.
-fn with_ops(plan: Plan, slots: [Slot; 32], count: usize) -> Plan
-    requires { count ≤ 32 }
-    ensures { result ≡ appended plan (map op_of (take count slots)) }
+fn with_ops(plan: Plan, ops: &[Slot]) -> Plan
+    ensures { result ≡ appended plan (map op_of ops.now) }
 {
     let mut out = list::kept(plan);
-    let mut i: usize = 0;
-    while i < count {
-        let slot = slots[i];
-        let op = slot.op;
-        out = list::push(out, op);
-        i += 1;
+    for slot in ops {
+        out = list::push(out, slot.op);
     }
     out
 }
@@ -81,16 +64,14 @@ fn with_ops(plan: Plan, slots: [Slot; 32], count: usize) -> Plan
 pub fn join(first: Plan, second: Plan) -> Joined
     ensures { result ≡ join_of first second }
 {
-    let verdict = verdict_of(first, second);
-    let Verdict::Passes { width } = verdict else {
-        return Joined {
-            answer: verdict,
+    match verdict_of(first, second) {
+        Ok(width) => Joined {
+            answer: Ok(width),
+            plan: with_ops(first, &second.ops[..second.count]),
+        },
+        Err(e) => Joined {
+            answer: Err(e),
             plan: list::empty(0),
-        };
-    };
-    let slots = second.ops;
-    Joined {
-        answer: Verdict::Passes { width },
-        plan: with_ops(first, slots, second.count),
+        },
     }
 }

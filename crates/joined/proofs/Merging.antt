@@ -1,5 +1,6 @@
 -- "Merging the joined list gives the same ops whether or not the first list was merged before", where "the unmerged lists together have at most 32 ops". (02, W12)
 -- A merged list leads where the list led, and is no longer; that its ops then merge to the same ones is merging's own law.
+use Rattle.std.specs.Prelude.{Ok, Err}
 use Prim.Native.Nat.{ℕ, ◌+◌, ◌≤◌}
 use mathlib.Core.Path.{◌≡◌, refl, ap, sym, subst, ◌∙◌}
 use mathlib.Core.List.{List, ◌++◌}
@@ -12,13 +13,13 @@ use Rattle.list.specs.Answer.{paper}
 use Rattle.list.specs.Fits.{Fits}
 use Rattle.list.specs.Lists.{ops_of, plan_of, no_list, Formed, Unlawful}
 use Rattle.list.specs.declared.Plan.{Plan}
-use Rattle.list.specs.declared.Verdict.{Verdict}
-use Rattle.list.specs.declared.Verdict.TheVariants.{Passes, Malformed, Misfit}
+use Rattle.list.specs.Check.{Verdict}
+use Rattle.list.specs.declared.CheckError.TheVariants.{Malformed, Misfit}
 use Rattle.list.proofs.Building.{ops-of, plan-true}
 use Rattle.list.proofs.Formed.{lawful-exactly, unlawful-exactly, never_both}
 use Rattle.merge.specs.Merge.{merge_ops, merge_of}
 use Rattle.merge.specs.declared.Merged.{Merged}
-use Rattle.merge.specs.declared.Merging.TheVariants as M
+use Rattle.merge.specs.declared.MergeError.TheVariants as M
 use Rattle.merge.proofs.Fitting.{fits-merged}
 use Rattle.merge.proofs.Front.{short, still_lawful}
 use Rattle.merge.proofs.Settled.{first_part}
@@ -28,7 +29,7 @@ use Rattle.join.proofs.Answered.{is-given, some_words}
 use Rattle.join.proofs.Passing.{one_list}
 
 abbrev done : ℕ → List Op → Merged
-done s os = record { answer = M.Done; plan = plan_of s os }
+done s os = record { answer = (Ok tt); plan = plan_of s os }
 
 -- merging the list of some ops
 merge_of_lem : (s : ℕ) (os : List Op) → Formed s (length os) → merge_of (plan_of s os) ≡ done s (merge_ops os)
@@ -55,11 +56,11 @@ module _ (p q : Plan) where
   first-unlawful : Unlawful p → Alike-with p q (merge_of p).plan
   first-unlawful u =
       let merged : (merge_of p).plan ≡ no_list = rw ((unlawful-exactly p).1 u) in
-      subst (Alike-with p q) (sym merged) (by-verdicts no_list Malformed Malformed (is-given no_list q Malformed (inl no_list_lem)) (is-given p q Malformed (inl u)) refl (refl, refl))
+      subst (Alike-with p q) (sym merged) (by-verdicts no_list (Err Malformed) (Err Malformed) (is-given no_list q (Err Malformed) (inl no_list_lem)) (is-given p q (Err Malformed) (inl u)) refl (refl, refl))
 
   second-unlawful : Unlawful q → Alike-with p q (merge_of p).plan
   second-unlawful u =
-      by-verdicts (merge_of p).plan Malformed Malformed (is-given (merge_of p).plan q Malformed (inr (inl u))) (is-given p q Malformed (inr (inl u))) refl (refl, refl)
+      by-verdicts (merge_of p).plan (Err Malformed) (Err Malformed) (is-given (merge_of p).plan q (Err Malformed) (inr (inl u))) (is-given p q (Err Malformed) (inr (inl u))) refl (refl, refl)
 
   -- two lists that 10 does not refuse
   module _ (j : Joinable p q) where
@@ -86,23 +87,23 @@ module _ (p q : Plan) where
         ∙ ap (done p.start) (first_part (ops_of p) (ops_of q))
         ∙ sym (merge_of_lem p.start (ops_of p ++ ops_of q) (one_list p q j))
 
-    both-pass : (w : ℕ) → Given p q (Passes w) → Alike-with p q m
+    both-pass : (w : ℕ) → Given p q (Ok w) → Alike-with p q m
     both-pass w g =
-        by-verdicts m (Passes w) (Passes w) (is-given m q (Passes w) (still-joinable, there g.1, g.2)) (is-given p q (Passes w) g) same-merged (refl, refl)
+        by-verdicts m (Ok w) (Ok w) (is-given m q (Ok w) (still-joinable, there g.1, g.2)) (is-given p q (Ok w) g) same-merged (refl, refl)
 
     -- the join fails, and so does that of the merged list
-    both-fail : (k : ℕ) → Given p q (Misfit k) → (v : Verdict) → Given m q v → Alike-with p q m
-    both-fail k g Malformed u = absurd (never m q still-joinable u)
-    both-fail k g (Misfit i) h = by-verdicts m (Misfit i) (Misfit k) (is-given m q (Misfit i) h) (is-given p q (Misfit k) g) refl (refl, refl)
-    both-fail k g (Passes w) h =
-        let e = sym (is-given p q (Misfit k) g) ∙ is-given p q (Passes w) (j, back h.1, h.2) in
+    both-fail : (k : ℕ) → Given p q (Err (Misfit k)) → (v : Verdict) → Given m q v → Alike-with p q m
+    both-fail k g (Err Malformed) u = absurd (never m q still-joinable u)
+    both-fail k g (Err (Misfit i)) h = by-verdicts m (Err (Misfit i)) (Err (Misfit k)) (is-given m q (Err (Misfit i)) h) (is-given p q (Err (Misfit k)) g) refl (refl, refl)
+    both-fail k g (Ok w) h =
+        let e = sym (is-given p q (Err (Misfit k)) g) ∙ is-given p q (Ok w) (j, back h.1, h.2) in
         let z : ◌≡◌ {A = ℕ} 5 0 = ap (λ (v : Verdict). (paper v).number) e in
         absurd (omega arith)
 
   alike : p.count + q.count ≤ 32 → (v : Verdict) → Given p q v → Alike-with p q (merge_of p).plan
-  alike room Malformed u = ⊎_elim first-unlawful (⊎_elim second-unlawful (λ n. absurd (omega arith))) u
-  alike room (Misfit k) g = let j = g.0 in subst (Alike-with p q) (sym (merged j)) (both-fail j k g (some_words (m j) q).0 (some_words (m j) q).1)
-  alike room (Passes w) g = let j = g.0 in subst (Alike-with p q) (sym (merged j)) (both-pass j w g)
+  alike room (Err Malformed) u = ⊎_elim first-unlawful (⊎_elim second-unlawful (λ n. absurd (omega arith))) u
+  alike room (Err (Misfit k)) g = let j = g.0 in subst (Alike-with p q) (sym (merged j)) (both-fail j k g (some_words (m j) q).0 (some_words (m j) q).1)
+  alike room (Ok w) g = let j = g.0 in subst (Alike-with p q) (sym (merged j)) (both-pass j w g)
 
   -- merging the join gives the same list whether or not the first list was merged before, refused or not
   pub merged-before : p.count + q.count ≤ 32 → merge_of (join_of (merge_of p).plan q).plan ≡ merge_of (join_of p q).plan

@@ -1,5 +1,6 @@
 -- "Where every op of both is carried, running it equals running one after the other, in all three channels." (02, W12), and the answers with it.
 -- On equally long channels all three runs reach the end, and ops run one after the other; on others all three are refused by 4.
+use Rattle.std.specs.Prelude.{Ok, Err}
 use Prim.Native.Nat.{ℕ}
 use mathlib.Core.Path.{◌≡◌, refl, ap, sym, subst, ◌∙◌}
 use mathlib.Core.Bool.{Bool, true, false}
@@ -18,8 +19,8 @@ use Rattle.judge.specs.Carried.{AllCarried, none, more}
 use Rattle.run.specs.Refusals.{outcome_of, paper}
 use Rattle.run.specs.Report.{bad_after, reported_of}
 use Rattle.run.specs.Run.{if_done, ran_of, run_ops}
-use Rattle.run.specs.declared.Outcome.{Outcome}
-use Rattle.run.specs.declared.Outcome.TheVariants.{Done, Unequal}
+use Rattle.run.specs.Refusals.{Outcome}
+use Rattle.run.specs.declared.RunError.TheVariants.{Unequal}
 use Rattle.run.specs.declared.Ran.{Ran}
 use Rattle.run.proofs.Answered.{is-given}
 use Rattle.run.proofs.LastStep.{ops-even}
@@ -34,7 +35,7 @@ carried_on none d = d
 carried_on (more e c) d = more e (carried_on c d)
 
 -- channels that are not equally long stay
-unequal_stays : (p : Plan) (s : Channels) → outcome_of p s ≡ Unequal → ran_of p s ≡ s
+unequal_stays : (p : Plan) (s : Channels) → outcome_of p s ≡ (Err Unequal) → ran_of p s ≡ s
 unequal_stays p s e = ap (λ (o : Outcome). if_done o (run_ops p.start (ops_of p) s) s) e
 
 abbrev told : Outcome → Channels → Ran
@@ -54,17 +55,17 @@ module _ (p q : Plan) (w : ℕ) (passed : Check.paper (join_of p q).answer ≡ a
   all-carried = subst AllCarried (sym (ops-joined p q w passed)) (carried_on first second)
 
   module _ (s : Channels) (e : EquallyLong s) where
-    first_ends : outcome_of p s ≡ Done q.start
-    first_ends = is-given p s (Done q.start) (parts.0, e, parts.2, first)
+    first_ends : outcome_of p s ≡ Ok q.start
+    first_ends = is-given p s (Ok q.start) (parts.0, e, parts.2, first)
 
     still-even : EquallyLong (ran_of p s)
     still-even = subst EquallyLong (done p s q.start (sym first_ends)) (ops-even p.start (ops_of p) s e)
 
-    second-ends : outcome_of q (ran_of p s) ≡ Done q.end
-    second-ends = is-given q (ran_of p s) (Done q.end) (parts.1, still-even, parts.3, second)
+    second-ends : outcome_of q (ran_of p s) ≡ Ok q.end
+    second-ends = is-given q (ran_of p s) (Ok q.end) (parts.1, still-even, parts.3, second)
 
-    joined-ends : outcome_of (join_of p q).plan s ≡ Done q.end
-    joined-ends = is-given (join_of p q).plan s (Done q.end) (joined.0, e, joined.1, all-carried)
+    joined-ends : outcome_of (join_of p q).plan s ≡ Ok q.end
+    joined-ends = is-given (join_of p q).plan s (Ok q.end) (joined.0, e, joined.1, all-carried)
 
     -- the first ends at the second's start width, and both the second and the join at the second's end width
     pub all-reach-the-end : (paper (outcome_of p s) ≡ answer 0 0 q.start) × (paper (outcome_of q (ran_of p s)) ≡ answer 0 0 q.end) × (paper (outcome_of (join_of p q).plan s) ≡ answer 0 0 q.end)
@@ -83,13 +84,13 @@ module _ (p q : Plan) (w : ℕ) (passed : Check.paper (join_of p q).answer ≡ a
 
   module _ (s : Channels) (n : ¬ EquallyLong s) where
     first-stays : ran_of p s ≡ s
-    first-stays = unequal_stays p s (is-given p s Unequal (parts.0, n))
+    first-stays = unequal_stays p s (is-given p s (Err Unequal) (parts.0, n))
 
-    joined-unequal : outcome_of (join_of p q).plan s ≡ Unequal
-    joined-unequal = is-given (join_of p q).plan s Unequal (joined.0, n)
+    joined-unequal : outcome_of (join_of p q).plan s ≡ Err Unequal
+    joined-unequal = is-given (join_of p q).plan s (Err Unequal) (joined.0, n)
 
-    second-unequal : outcome_of q s ≡ Unequal
-    second-unequal = is-given q s Unequal (parts.1, n)
+    second-unequal : outcome_of q s ≡ Err Unequal
+    second-unequal = is-given q s (Err Unequal) (parts.1, n)
 
   -- for every three channels: what the join leaves in all three is what the one and then the other leave
   pub runs-one-after-other : (s : Channels) → ran_of (join_of p q).plan s ≡ ran_of q (ran_of p s)

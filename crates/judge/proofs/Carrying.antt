@@ -1,5 +1,6 @@
 -- Ops are all carried, or there is a first that is not; and what the search says of either.
 -- Op by op.
+use Rattle.std.specs.Prelude.{Some, None}
 use Prim.Native.Nat.{ℕ, suc, ◌+◌}
 use mathlib.Core.Path.{◌≡◌, refl, ap, ◌∙◌}
 use mathlib.Core.Bool.{Bool, true, false}
@@ -11,9 +12,8 @@ use Rattle.op.specs.Widths.{carried_of}
 use Rattle.op.specs.declared.Op.{Op}
 use Rattle.judge.specs.Carried.{AllCarried, none, more, UncarriedAt}
 use Rattle.judge.specs.Judging.{uncarried_from}
-use Rattle.judge.specs.declared.Uncarried.TheVariants.{At, Nowhere}
 
-pub none_uncarried : {os : List Op} → AllCarried os → (i : ℕ) → uncarried_from i os ≡ Nowhere
+pub none_uncarried : {os : List Op} → AllCarried os → (i : ℕ) → uncarried_from i os ≡ None
 none_uncarried none i = refl
 none_uncarried (more e c) i = rw e (none_uncarried c (i + 1))
 
@@ -25,7 +25,7 @@ carried-then : {os : List Op} (i : ℕ) (rest : List Op) → AllCarried os → u
 carried-then i rest none = moved rest (omega arith)
 carried-then i rest (more e c) = rw e (carried-then (i + 1) rest c ∙ moved rest (omega arith))
 
-pub first-uncarried : {os : List Op} {j : ℕ} (i : ℕ) → UncarriedAt os j → uncarried_from i os ≡ At (i + j)
+pub first-uncarried : {os : List Op} {j : ℕ} (i : ℕ) → UncarriedAt os j → uncarried_from i os ≡ Some (i + j)
 first-uncarried i u = ap (uncarried_from i) u.split ∙ carried-then i (u.op ∷ u.after) u.carried ∙ rw (u.uncarried, u.place)
 
 module _ {o : Op} {os : List Op} where

@@ -1,5 +1,6 @@
 -- What each judgement says of the list, in words; that one of these holds of every list, and that it is then the one that is given.
 -- By the width check's three cases, and of a list that passes by whether its ops are carried.
+use Rattle.std.specs.Prelude.{Ok, Err}
 use Prim.Native.Nat.{ℕ, ◌+◌}
 use mathlib.Core.Path.{◌≡◌, refl}
 use mathlib.Core.Logic.{⊎_elim}
@@ -15,45 +16,45 @@ use Rattle.list.proofs.Formed.{lawful-exactly, unlawful-exactly}
 use Rattle.list.proofs.Judging as Check
 use Rattle.judge.specs.Carried.{AllCarried, UncarriedAt}
 use Rattle.judge.specs.Judging.{paper, judge_of}
-use Rattle.judge.specs.declared.Judgement.{Judgement}
-use Rattle.judge.specs.declared.Judgement.TheVariants.{Ready, Malformed, Misfit, NotCarried}
+use Rattle.judge.specs.Judging.{Judgement}
+use Rattle.judge.specs.declared.JudgeError.TheVariants.{Malformed, Misfit, NotCarried}
 use Rattle.judge.proofs.Carrying.{none_uncarried, first-uncarried, carried-or_not}
 
 abbrev pub Words : Plan → Judgement → Type 0
-Words p Malformed = Unlawful p
-Words p (Misfit i) = Lawful p × FailsAt p.start (ops_of p) i
-Words p (NotCarried i) = Lawful p × ((v : ℕ) × Fits p.start (ops_of p) v) × UncarriedAt (ops_of p) i
-Words p (Ready w) = Lawful p × Fits p.start (ops_of p) w × AllCarried (ops_of p)
+Words p (Err Malformed) = Unlawful p
+Words p (Err (Misfit i)) = Lawful p × FailsAt p.start (ops_of p) i
+Words p (Err (NotCarried i)) = Lawful p × ((v : ℕ) × Fits p.start (ops_of p) v) × UncarriedAt (ops_of p) i
+Words p (Ok w) = Lawful p × Fits p.start (ops_of p) w × AllCarried (ops_of p)
 
 module _ (p : Plan) where
   pub some_words : (j : Judgement) × Words p j
   some_words = by (Check.judged p)
     where
       by : Check.Judged p → (j : Judgement) × Words p j
-      by (Check.malformed u) = (Malformed, u)
-      by (Check.failing {i} l f) = (Misfit i, (l, f))
-      by (Check.passing {v} l f) = ⊎_elim (λ c. (Ready v, (l, f, c))) (λ u. (NotCarried u.0, (l, (v, f), u.1))) (carried-or_not (ops_of p))
+      by (Check.malformed u) = (Err Malformed, u)
+      by (Check.failing {i} l f) = (Err (Misfit i), (l, f))
+      by (Check.passing {v} l f) = ⊎_elim (λ c. (Ok v, (l, f, c))) (λ u. (Err (NotCarried u.0), (l, (v, f), u.1))) (carried-or_not (ops_of p))
 
   pub is-given : (j : Judgement) → Words p j → judge_of p ≡ j
-  is-given Malformed u = rw ((unlawful-exactly p).1 u)
-  is-given (Misfit i) g =
+  is-given (Err Malformed) u = rw ((unlawful-exactly p).1 u)
+  is-given (Err (Misfit i)) g =
       let e : 0 + i ≡ i = omega arith in
       rw ((lawful-exactly p).1 g.0, fails_misfit 0 g.1, e)
-  is-given (NotCarried i) g =
+  is-given (Err (NotCarried i)) g =
       let e : 0 + i ≡ i = omega arith in
       rw ((lawful-exactly p).1 g.0, fits-passes 0 g.1.1, first-uncarried 0 g.2, e)
-  is-given (Ready w) g = rw ((lawful-exactly p).1 g.0, fits-passes 0 g.1, none_uncarried g.2 0)
+  is-given (Ok w) g = rw ((lawful-exactly p).1 g.0, fits-passes 0 g.1, none_uncarried g.2 0)
 
 -- a judgement is read back from 01's answer for it
 abbrev pub back : Answer → Judgement
 back a =
-    when eqb a.number 10 then Malformed
-    else when eqb a.number 5 then Misfit a.position
-    else when eqb a.number 6 then NotCarried a.position
-    else Ready a.width
+    when eqb a.number 10 then Err Malformed
+    else when eqb a.number 5 then Err (Misfit a.position)
+    else when eqb a.number 6 then Err (NotCarried a.position)
+    else Ok a.width
 
 pub reads-back : (j : Judgement) → back (paper j) ≡ j
-reads-back (Ready w) = refl
-reads-back Malformed = refl
-reads-back (Misfit i) = refl
-reads-back (NotCarried i) = refl
+reads-back (Ok w) = refl
+reads-back (Err Malformed) = refl
+reads-back (Err (Misfit i)) = refl
+reads-back (Err (NotCarried i)) = refl

@@ -1,5 +1,6 @@
 -- What the check tells of a list: an end width is 1 to 3, and a position is below the count; a list that passes or fails by 5 is lawful.
 -- By the rows of the table of widths, one after the other.
+use Rattle.std.specs.Prelude.{Ok, Err}
 use Prim.Native.Nat.{ℕ, ◌≤◌, ◌<◌}
 use mathlib.Core.Path.{◌≡◌, ap}
 use mathlib.Core.Logic.{⊎_elim}
@@ -13,7 +14,7 @@ use Rattle.list.specs.Answer.{paper}
 use Rattle.list.specs.Check.{check_of}
 use Rattle.list.specs.Fits.{Fits, none, more, FailsAt}
 use Rattle.list.specs.declared.Plan.{Plan}
-use Rattle.list.specs.declared.Verdict.TheVariants.{Passes, Misfit}
+use Rattle.list.specs.declared.CheckError.TheVariants.{Misfit}
 use Rattle.list.proofs.Exactly.{passes-exactly, five-exactly}
 use Rattle.list.proofs.Walk.{count-ops}
 
@@ -55,14 +56,14 @@ module _ (p : Plan) where
   pub end-within : {v : ℕ} → Lawful p → Fits p.start (ops_of p) v → Within v
   end-within l f = fits-within f (start-within l)
 
-  pub passes-lawful : {w : ℕ} → check_of p ≡ Passes w → Lawful p
+  pub passes-lawful : {w : ℕ} → check_of p ≡ Ok w → Lawful p
   passes-lawful {w} e = ((passes-exactly p w).0 (ap paper e)).0
 
-  pub misfit-lawful : {i : ℕ} → check_of p ≡ Misfit i → Lawful p
+  pub misfit-lawful : {i : ℕ} → check_of p ≡ (Err (Misfit i)) → Lawful p
   misfit-lawful {i} e = ((five-exactly p i).0 (ap paper e)).0
 
-  pub width-within : {w : ℕ} → check_of p ≡ Passes w → Within w
+  pub width-within : {w : ℕ} → check_of p ≡ Ok w → Within w
   width-within {w} e = let h = (passes-exactly p w).0 (ap paper e) in end-within h.0 h.1
 
-  pub position-below : {i : ℕ} → check_of p ≡ Misfit i → i < p.count
+  pub position-below : {i : ℕ} → check_of p ≡ (Err (Misfit i)) → i < p.count
   position-below {i} e = omega (arith, fails_below ((five-exactly p i).0 (ap paper e)).1, count-ops p.count p.ops)

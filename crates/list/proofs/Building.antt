@@ -106,19 +106,19 @@ plan-eq s n n' v v' l l' e g f = rw (e, g, f)
 repeats : (k j : ℕ) (a : Slot) → k ≡ suc j → replicate k a ≡ a ∷ replicate j a
 repeats k j a e = rw e
 
-module _ (s n : ℕ) (ss l : List Slot) (h : n ≤ 32) (k : length ss ≡ 32) (f : l ≡ take n ss ++ drop n (replicate 32 (slot O.Clip))) where
-  rest : drop n (replicate 32 (slot O.Clip)) ≡ replicate (32 - n) (slot O.Clip)
-  rest =
-      let c = slot O.Clip in
-      let e : n + (32 - n) ≡ 32 = omega arith in
-      ap (drop n) (sym (replicate-append-replicate n (32 - n) c ∙ ap (λ (m : ℕ). replicate m c) e)) ∙ drop_at (replicate n c) (replicate (32 - n) c) n (length-replicate n c)
+-- what is behind n slots of an empty list
+clips : (n : ℕ) → n ≤ 32 → drop n (replicate 32 (slot O.Clip)) ≡ replicate (32 - n) (slot O.Clip)
+clips n h =
+    let c = slot O.Clip in
+    let e : n + (32 - n) ≡ 32 = omega arith in
+    ap (drop n) (sym (replicate-append-replicate n (32 - n) c ∙ ap (λ (m : ℕ). replicate m c) e)) ∙ drop_at (replicate n c) (replicate (32 - n) c) n (length-replicate n c)
 
-  pub filled : (v : ℕ) → v ≡ end_of s n (map op_of (take n ss))
-      → ◌≡◌ {A = Plan} (record { start = s; count = n; end = v; ops = l }) (plan_of s (map op_of (take n ss)))
-  filled v g =
-      let os = map op_of (take n ss) in
-      let c : length os ≡ n = length-map (take n ss) op_of ∙ length-take-le n ss (omega arith) in
-      plan-eq s _ _ _ _ _ _ (sym c) (g ∙ ap (λ (k : ℕ). end_of s k os) (sym c)) (f ∙ rw (c, unslotted (take n ss), rest))
+pub filled : (s : ℕ) (ss l : List Slot) → length ss ≤ 32 → l ≡ ss ++ drop (length ss) (replicate 32 (slot O.Clip)) → (v : ℕ) → v ≡ end_of s (length ss) (map op_of ss)
+    → ◌≡◌ {A = Plan} (record { start = s; count = length ss; end = v; ops = l }) (plan_of s (map op_of ss))
+filled s ss l h f v g =
+    let os = map op_of ss in
+    let c : length os ≡ length ss = length-map ss op_of in
+    plan-eq s _ _ _ _ _ _ (sym c) (g ∙ ap (λ (k : ℕ). end_of s k os) (sym c)) (f ∙ rw (c, unslotted ss, clips (length ss) h))
 
 -- a slot written behind them, and the end width that its op leads to
 pub one_more : (s : ℕ) (os : List Op) (o : Op) (n v : ℕ) → length os ≡ n → n < 32 → v ≡ end_of s (n + 1) (os ++ (o ∷ []))

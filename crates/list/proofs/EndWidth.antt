@@ -11,7 +11,7 @@ use Rattle.list.specs.Ends.{end_from}
 use Rattle.list.specs.Fits.{Fits, FailsAt}
 use Rattle.list.specs.Lists.{ops_of, Formed, True, Lawful}
 use Rattle.list.specs.declared.Plan.{Plan}
-use Rattle.list.specs.declared.Verdict.{Verdict}
+use Rattle.list.specs.Check.{Verdict}
 use Rattle.list.proofs.Bounds.{end-within}
 use Rattle.list.proofs.Ending.{told-from}
 use Rattle.list.proofs.Exactly.{passes-exactly}

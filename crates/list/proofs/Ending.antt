@@ -1,5 +1,7 @@
 -- The width that ops lead to is that which the check tells, and 0 where the check refuses them; and that of a list that goes on.
 -- Op by op. An op that finds width 0 gives 0 or fails, so a list that has failed stays at 0.
+use Rattle.std.specs.Prelude.{Ok, Err}
+use Rattle.std.specs.Result.{result_unwrap_or}
 use Prim.Native.Nat.{ℕ, ◌+◌}
 use mathlib.Core.Path.{◌≡◌, refl, ap, sym, ◌∙◌}
 use mathlib.Core.Bool.{Bool, true, false}
@@ -16,17 +18,23 @@ use Rattle.list.specs.Answer.{paper}
 use Rattle.list.specs.Check.{check_from, check_of}
 use Rattle.list.specs.Ends.{end_from}
 use Rattle.list.specs.declared.Plan.{Plan}
-use Rattle.list.specs.declared.Verdict.{Verdict}
-use Rattle.list.specs.declared.Verdict.TheVariants.{Misfit}
+use Rattle.list.specs.Check.{Verdict}
+use Rattle.list.specs.declared.CheckError.TheVariants.{Malformed, Misfit}
 use Rattle.list.proofs.Formed.{formed-exactly, lawful-exactly}
 
 pub told-from : (os : List Op) (w i : ℕ) → (paper (check_from w i os)).width ≡ end_from w os
 told-from [] w i = refl
 told-from (o ∷ os) w i = by (fits_at o w) (check_from (gives_of o w) (i + 1) os) (told-from os (gives_of o w) (i + 1))
   where
-    by : (b : Bool) (v : Verdict) {n : ℕ} → (paper v).width ≡ n → (paper (when b then v else Misfit i)).width ≡ (when b then n else 0)
+    by : (b : Bool) (v : Verdict) {n : ℕ} → (paper v).width ≡ n → (paper (when b then v else (Err (Misfit i)))).width ≡ (when b then n else 0)
     by true v e = e
     by false v e = refl
+
+-- the width of a verdict, or 0
+pub width-or_0 : (v : Verdict) → result_unwrap_or v 0 ≡ (paper v).width
+width-or_0 (Ok w) = refl
+width-or_0 (Err Malformed) = refl
+width-or_0 (Err (Misfit i)) = refl
 
 -- the width that the check tells is the end width of a list that 10 does not refuse, and 0 of another
 pub told : (p : Plan) → (paper (check_of p)).width ≡ (when lawful p then p.end else 0)

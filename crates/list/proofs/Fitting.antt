@@ -1,5 +1,6 @@
 -- Ops that are entered at a width fit, by the rows of the table, or one of them fails; and what the check says of either.
 -- Op by op: where the op finds the width that it needs, a row takes it on, and else none does.
+use Rattle.std.specs.Prelude.{Ok, Err}
 use Prim.Native.Nat.{ℕ, suc, ◌+◌}
 use mathlib.Core.Path.{◌≡◌, refl, ap, sym, ◌∙◌}
 use mathlib.Core.List.{List, [], ◌∷◌, ◌++◌}
@@ -13,7 +14,7 @@ use Rattle.op.specs.declared.Op.{Op}
 use Rattle.op.proofs.Steps.{fits-step, step_fits, step_gives}
 use Rattle.list.specs.Check.{check_from}
 use Rattle.list.specs.Fits.{Fits, none, more, NeedsOther, FailsAt}
-use Rattle.list.specs.declared.Verdict.TheVariants.{Passes, Misfit}
+use Rattle.list.specs.declared.CheckError.TheVariants.{Misfit}
 
 moved : (w : ℕ) (os : List Op) {i j : ℕ} → i ≡ j → check_from w i os ≡ check_from w j os
 moved w os e = rw e
@@ -23,7 +24,7 @@ pub fits-then : {w v : ℕ} {os : List Op} (i : ℕ) (rest : List Op) → Fits w
 fits-then {w} i rest none = moved w rest (omega arith)
 fits-then i rest (more {v = v} {os = os} s f) = rw (step_fits s, step_gives s) (fits-then (i + 1) rest f ∙ moved v rest (omega arith))
 
-pub fits-passes : {w v : ℕ} {os : List Op} (i : ℕ) → Fits w os v → check_from w i os ≡ Passes v
+pub fits-passes : {w v : ℕ} {os : List Op} (i : ℕ) → Fits w os v → check_from w i os ≡ Ok v
 fits-passes i none = refl
 fits-passes i (more s f) = rw (step_fits s, step_gives s) (fits-passes (i + 1) f)
 
@@ -34,7 +35,7 @@ unmet o w n = by (fits_at o w) refl
     by true e = absurd (n (gives_of o w) (fits-step o w e))
     by false e = e
 
-pub fails_misfit : {w : ℕ} {os : List Op} {j : ℕ} (i : ℕ) → FailsAt w os j → check_from w i os ≡ Misfit (i + j)
+pub fails_misfit : {w : ℕ} {os : List Op} {j : ℕ} (i : ℕ) → FailsAt w os j → check_from w i os ≡ Err (Misfit (i + j))
 fails_misfit {w} i f =
     ap (check_from w i) f.split
     ∙ fits-then i (f.op ∷ f.after) f.reached

@@ -1,7 +1,8 @@
 -- No text is longer than 928 bytes, so 1,024 are enough.
 -- A line of an op has at most 28 bytes, that of a transfer function which is retired, and there are at most 32 of them.
+use Rattle.std.specs.Prelude.{Ok, Err}
 use Prim.Native.Nat.{ℕ, ◌+◌, ◌*◌, ◌≤◌}
-use mathlib.Core.Path.{◌≡◌, refl}
+use mathlib.Core.Path.{◌≡◌, refl, ap}
 use mathlib.Core.Bool.{Bool, true, false}
 use mathlib.Core.List.{List, [], ◌∷◌, ◌++◌}
 use native.Mathlib.Omega.{arith}
@@ -16,8 +17,8 @@ use Rattle.op.specs.declared.Op.TheVariants as O
 use Rattle.list.specs.declared.Plan.{Plan}
 use Rattle.list.proofs.Walk.{count-ops}
 use Rattle.list.specs.Check.{check_of}
-use Rattle.list.specs.declared.Verdict.{Verdict}
-use Rattle.list.specs.declared.Verdict.TheVariants.{Passes, Malformed, Misfit}
+use Rattle.list.specs.Check.{Verdict}
+use Rattle.list.specs.declared.CheckError.TheVariants.{Malformed, Misfit}
 use Rattle.block.specs.Block.{paper, read_of}
 use Rattle.block.specs.declared.Block.{Block}
 use Rattle.listing.specs.Words.{title_of, decimal, counted, ending}
@@ -62,14 +63,17 @@ first_short start count =
     omega (arith, length-append (counted (ascii "start ") start) (ending (ascii " ops ") count), counted-short (ascii "start ") start, ending-short (ascii " ops ") count)
 
 module _ (p : Plan) where
-  all_short : Lawful p → length (lines p) ≤ 912
-  all_short l =
-      omega (arith, length-append (first_line p.start p.count) (op_lines 0 (ops_of p)), first_short p.start p.count, lines-short 0 (ops_of p), count-ops p.count p.ops, l.0.1)
+  -- behind the first line there is room for those of the ops
+  pub ops_fit : (s : List ℕ) → s ≡ first_line p.start p.count → Lawful p → length s + length (op_lines 0 (ops_of p)) ≤ 912
+  ops_fit s e l = omega (arith, ap length e, first_short p.start p.count, lines-short 0 (ops_of p), count-ops p.count p.ops, l.0.1)
+
+  pub all_short : (s : List ℕ) → s ≡ lines p → Lawful p → length s ≤ 912
+  all_short s e l = omega (arith, ap length e, length-append (first_line p.start p.count) (op_lines 0 (ops_of p)), ops_fit _ refl l)
 
   list-short : (v : Verdict) → check_of p ≡ v → length (list_text p v) ≤ 928
-  list-short (Passes w) e = omega (arith, length-append (lines p) (ending (ascii "end ") w), all_short (passes-lawful p e), ending-short (ascii "end ") w)
-  list-short (Misfit i) e = omega (arith, length-append (lines p) (ending (ascii "refused 5 at ") i), all_short (misfit-lawful p e), ending-short (ascii "refused 5 at ") i)
-  list-short Malformed e = omega (arith, ending-short (ascii "refused ") 10)
+  list-short (Ok w) e = omega (arith, length-append (lines p) (ending (ascii "end ") w), all_short _ refl (passes-lawful p e), ending-short (ascii "end ") w)
+  list-short (Err (Misfit i)) e = omega (arith, length-append (lines p) (ending (ascii "refused 5 at ") i), all_short _ refl (misfit-lawful p e), ending-short (ascii "refused 5 at ") i)
+  list-short (Err Malformed) e = omega (arith, ending-short (ascii "refused ") 10)
 
 pub plan-short : (p : Plan) → length (plan_text p) ≤ 928
 plan-short p = list-short p (check_of p) refl

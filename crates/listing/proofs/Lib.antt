@@ -4,8 +4,5 @@ pub mod Front
 pub mod Versions
 pub mod Example
 pub mod Determined
--- their laws, and those of the code
+-- their laws
 pub mod Small
-pub mod Decimals
-pub mod Turning
-pub mod Answering

@@ -1,13 +1,13 @@
 -- "A read refusal prints `refused N` alone; a width refusal replaces the last line by `refused 5 at P`." (01, Plan block). Definitions only.
-use Rattle.std.specs.Prelude.{ℕ, ◌+◌, List, [], ◌∷◌, ◌++◌, eqb}
+use Rattle.std.specs.Prelude.{ℕ, ◌+◌, List, [], ◌∷◌, ◌++◌, eqb, Ok, Err}
 use Rattle.notation.specs.Choice.{when◌then◌else◌}
 use Rattle.notation.specs.Text.{ascii}
 use Rattle.list.specs.Lists.{ops_of}
 use Rattle.op.specs.declared.Op.{Op}
 use Rattle.list.specs.declared.Plan.{Plan}
 use Rattle.list.specs.Check.{check_of}
-use Rattle.list.specs.declared.Verdict.{Verdict}
-use Rattle.list.specs.declared.Verdict.TheVariants.{Passes, Malformed, Misfit}
+use Rattle.list.specs.Check.{Verdict}
+use Rattle.list.specs.declared.CheckError.TheVariants.{Malformed, Misfit}
 use Rattle.block.specs.Block.{paper, read_of}
 use Rattle.block.specs.declared.Block.{Block}
 use Rattle.listing.specs.Words.{title_of, decimal, counted, ending}
@@ -35,9 +35,9 @@ refusal n = ending (ascii "refused ") n
 
 -- "end 1"; "a width refusal replaces the last line by `refused 5 at P`". No list that is read is refused by 10.
 abbrev pub list_text : Plan → Verdict → List ℕ
-list_text p (Passes width) = lines p ++ ending (ascii "end ") width
-list_text p (Misfit position) = lines p ++ ending (ascii "refused 5 at ") position
-list_text p Malformed = refusal 10
+list_text p (Ok width) = lines p ++ ending (ascii "end ") width
+list_text p (Err (Misfit position)) = lines p ++ ending (ascii "refused 5 at ") position
+list_text p (Err Malformed) = refusal 10
 
 -- what is printed for a list
 abbrev pub plan_text : Plan → List ℕ

@@ -1,107 +1,118 @@
 // The text of `planlist`: what a plan block holds, or why it is refused, line by line.
+// Room and numbers are asked for as `words` says.
 #![tactic(auto)]
 
-ghost use Rattle.std.specs.Prelude.{map, ◌≤◌, ◌<◌, take};
+ghost use Rattle.std.specs.Prelude.{◌≡◌, ◌+◌, ◌<◌, ◌≤◌, ◌++◌, map, length};
+ghost use Rattle.arrayvec.specs.ArrayVec.{array_vec_len};
 ghost use Rattle.list.specs.Lists.{op_of, Lawful};
-ghost use Rattle.listing.specs.Listing.{first_line, op_line, op_lines, lines, plan_text, text_of};
-ghost use Rattle.buffer.specs.Buffer.{Room, Put, Listed};
+ghost use Rattle.listing.specs.Listing.{first_line, op_line, op_lines, lines, refusal, plan_text, text_of};
+ghost use Rattle.buffer.specs.Buffer.{Listed};
 
 mod words; // words.rt: names and numbers
 
-use list::{Plan, Slot, Verdict};
+use arrayvec::ArrayVec;
+use list::{CheckError, Plan, Slot};
 use op::Op;
-use words::{put, put_counted, put_ending, put_number, put_title};
+use words::{Text, put_counted, put_ending, put_number, put_title};
 
-fn put_first_line(out: &mut [u8], at: usize, start: usize, count: usize) -> usize
-    requires room { Room out.old at (first_line start count) }
+fn put_first_line(out: &mut Text, start: usize, count: usize)
+    requires room { array_vec_len out.old + length (first_line start count) ≤ 1024 }
     requires start_bound { (start < 100) × (count < 100) }
-    ensures { Put out.old at (first_line start count) out.new result }
+    ensures { out.new.items ≡ out.old.items ++ first_line start count }
 {
-    let next = put_counted(out, at, b"start ", start);
-    put_ending(out, next, b" ops ", count)
+    put_counted(out, b"start ", start);
+    put_ending(out, b" ops ", count);
 }
 
-fn put_op_line(out: &mut [u8], at: usize, i: usize, op: Op) -> usize
-    requires room { Room out.old at (op_line i op) }
+fn put_op_line(out: &mut Text, i: usize, op: Op)
+    requires room { array_vec_len out.old + length (op_line i op) ≤ 1024 }
     requires i_bound { i < 100 }
-    ensures { Put out.old at (op_line i op) out.new result }
+    ensures { out.new.items ≡ out.old.items ++ op_line i op }
 {
-    let after_number = put_number(out, at, i);
-    let after_space = put(out, after_number, b" ");
-    let after_title = put_title(out, after_space, op);
-    put(out, after_title, b"\n")
+    put_number(out, i);
+    out.push(b' ');
+    put_title(out, op);
+    out.push(b'\n');
 }
 
-fn put_op_lines(out: &mut [u8], at: usize, slots: [Slot; 32], count: usize) -> usize
-    requires room { Room out.old at (op_lines 0 (map op_of (take count slots))) }
-    requires count_bound { count ≤ 32 }
-    ensures { Put out.old at (op_lines 0 (map op_of (take count slots))) out.new result }
+fn put_op_lines(out: &mut Text, ops: &[Slot])
+    requires room { array_vec_len out.old + length (op_lines 0 (map op_of ops.now)) ≤ 1024 }
+    requires count_bound { length ops.now ≤ 32 }
+    ensures { out.new.items ≡ out.old.items ++ op_lines 0 (map op_of ops.now) }
 {
-    let mut next = at;
-    let mut i: usize = 0;
-    while i < count {
-        let slot = slots[i];
-        let op = slot.op;
-        next = put_op_line(out, next, i, op);
-        i += 1;
+    for (i, slot) in ops.iter().enumerate() {
+        put_op_line(out, i, slot.op);
     }
-    next
 }
 
 // All lines but the last.
-fn put_lines(out: &mut [u8], plan: Plan) -> usize
-    requires room { Room out.old 0 (lines plan) }
-    requires lawful { Lawful plan }
-    ensures { Put out.old 0 (lines plan) out.new result }
+#[tactic(auto, using(crate::proofs::Enough::ops_fit, crate::proofs::Enough::all_short))]
+fn lines(plan: Plan) -> Text
+    requires { Lawful plan }
+    ensures value { result.items ≡ lines plan }
+    ensures short { array_vec_len result ≤ 912 }
 {
-    let start = plan.start;
-    let count = plan.count;
-    let slots = plan.ops;
-    let next = put_first_line(out, 0, start as usize, count);
-    put_op_lines(out, next, slots, count)
+    let mut text = ArrayVec::new();
+    put_first_line(&mut text, plan.start as usize, plan.count);
+    put_op_lines(&mut text, &plan.ops[..plan.count]);
+    text
 }
 
-fn put_list(out: &mut [u8], plan: Plan) -> usize
-    requires { Room out.old 0 (plan_text plan) }
-    ensures { Put out.old 0 (plan_text plan) out.new result }
+fn refusal(number: usize) -> Text
+    requires { number < 100 }
+    ensures { result.items ≡ refusal number }
+{
+    let mut text = ArrayVec::new();
+    put_ending(&mut text, b"refused ", number);
+    text
+}
+
+fn plan_text(plan: Plan) -> Text
+    ensures { result.items ≡ plan_text plan }
 {
     match list::check(plan) {
-        Verdict::Passes { width } => {
-            let next = put_lines(out, plan);
-            put_ending(out, next, b"end ", width as usize)
+        Ok(width) => {
+            let mut text = lines(plan);
+            put_ending(&mut text, b"end ", width as usize);
+            text
         }
-        Verdict::Malformed => put_ending(out, 0, b"refused ", 10),
-        Verdict::Misfit { position } => {
-            let next = put_lines(out, plan);
-            put_ending(out, next, b"refused 5 at ", position)
+        Err(CheckError::Malformed) => refusal(10),
+        Err(CheckError::Misfit { position }) => {
+            let mut text = lines(plan);
+            put_ending(&mut text, b"refused 5 at ", position);
+            text
         }
     }
 }
 
-fn put_text(out: &mut [u8], bytes: &[u8]) -> usize
-    requires { Room out.old 0 (text_of bytes.now) }
-    ensures { Put out.old 0 (text_of bytes.now) out.new result }
+fn text_of(bytes: &[u8]) -> Text
+    ensures { result.items ≡ text_of bytes.now }
 {
     let block = block::read(bytes);
-    let answer = block.answer;
-    let number = block::paper(answer).number;
-    if number == 0 {
-        let plan = block.plan;
-        return put_list(out, plan);
+    match block.answer {
+        Ok(()) => plan_text(block.plan),
+        refused => refusal(block::paper(refused).number as usize),
     }
-    put_ending(out, 0, b"refused ", number as usize)
 }
 
-// The text of a list, which need not come from a block, at the front of a buffer that is always large enough; the answer is how long the text is.
+fn put_front(text: Text, out: &mut [u8; 1024]) -> usize
+    ensures { Listed text.items out.old out.new result }
+{
+    out[..text.len()].copy_from_slice(&text);
+    text.len()
+}
+
+// The text of a list, which need not come from a block, at the front of a buffer that is always large enough; the answer is how long the text is. Into a
+// lent array, as C has it.
 pub fn list_plan(plan: Plan, out: &mut [u8; 1024]) -> usize
     ensures { Listed (plan_text plan) out.old out.new result }
 {
-    put_list(out, plan)
+    put_front(plan_text(plan), out)
 }
 
 // The same of the list in a plan block, or of why the block is refused.
 pub fn list(bytes: &[u8], out: &mut [u8; 1024]) -> usize
     ensures { Listed (text_of bytes.now) out.old out.new result }
 {
-    put_text(out, bytes)
+    put_front(text_of(bytes), out)
 }

@@ -1,83 +1,75 @@
-// What the lines are made of, each put into a buffer from a place on; the answer is the place after it.
-ghost use Rattle.std.specs.Prelude.{◌<◌};
+// What the lines are made of, each put behind what is there.
+// By hand, and not by `write!`: each byte is proved. Each function asks for the room of its own words, and for a number below a hundred: no invariant of
+// the text says what is still to come, and a type for the numbers would be opened at each call.
+ghost use Rattle.std.specs.Prelude.{◌≡◌, ◌+◌, ◌<◌, ◌≤◌, ◌++◌, length};
+ghost use Rattle.arrayvec.specs.ArrayVec.{array_vec_len};
 ghost use Rattle.listing.specs.Words.{name_of, mark_of, title_of, decimal, counted, ending};
-ghost use Rattle.buffer.specs.Buffer.{Room, Put};
 
+use arrayvec::ArrayVec;
 use op::Op;
 
-pub(crate) fn put(out: &mut [u8], at: usize, text: &[u8]) -> usize
-    requires { Room out.old at text.now }
-    ensures { Put out.old at text.now out.new result }
-{
-    buffer::put(out, at, text)
-}
+pub(crate) type Text = ArrayVec<u8, 1024>;
 
 // A number below a hundred, in decimal.
-pub(crate) fn put_number(out: &mut [u8], at: usize, n: usize) -> usize
-    requires room { Room out.old at (decimal n) }
+pub(crate) fn put_number(out: &mut Text, n: usize)
+    requires room { array_vec_len out.old + length (decimal n) ≤ 1024 }
     requires n_bound { n < 100 }
-    ensures { Put out.old at (decimal n) out.new result }
+    ensures { out.new.items ≡ out.old.items ++ decimal n }
 {
-    let low = b'0' + (n % 10) as u8;
-    if n < 10 {
-        return put(out, at, &[low]);
+    if n >= 10 {
+        out.push(b'0' + (n / 10) as u8);
     }
-    put(out, at, &[b'0' + (n / 10) as u8, low])
+    out.push(b'0' + (n % 10) as u8);
 }
 
 // Words and then a number.
-pub(crate) fn put_counted(out: &mut [u8], at: usize, words: &[u8], n: usize) -> usize
-    requires room { Room out.old at (counted words.now n) }
+pub(crate) fn put_counted(out: &mut Text, words: &[u8], n: usize)
+    requires room { array_vec_len out.old + length (counted words.now n) ≤ 1024 }
     requires n_bound { n < 100 }
-    ensures { Put out.old at (counted words.now n) out.new result }
+    ensures { out.new.items ≡ out.old.items ++ counted words.now n }
 {
-    let next = put(out, at, words);
-    put_number(out, next, n)
+    out.try_extend_from_slice(words).unwrap();
+    put_number(out, n);
 }
 
 // The same as the end of a line.
-pub(crate) fn put_ending(out: &mut [u8], at: usize, words: &[u8], n: usize) -> usize
-    requires room { Room out.old at (ending words.now n) }
+pub(crate) fn put_ending(out: &mut Text, words: &[u8], n: usize)
+    requires room { array_vec_len out.old + length (ending words.now n) ≤ 1024 }
     requires n_bound { n < 100 }
-    ensures { Put out.old at (ending words.now n) out.new result }
+    ensures { out.new.items ≡ out.old.items ++ ending words.now n }
 {
-    let next = put_counted(out, at, words, n);
-    put(out, next, b"\n")
+    put_counted(out, words, n);
+    out.push(b'\n');
 }
 
-pub(crate) fn put_name(out: &mut [u8], at: usize, op: Op) -> usize
-    requires { Room out.old at (name_of op) }
-    ensures { Put out.old at (name_of op) out.new result }
+fn name_of(op: Op) -> &'static [u8]
+    ensures { result.now ≡ name_of op }
 {
     match op {
-        Op::XybToMixedLms { .. } => put(out, at, b"XybToMixedLms"),
-        Op::LumaToXyz { .. } => put(out, at, b"LumaToXyz"),
-        Op::XyzToLuma => put(out, at, b"XyzToLuma"),
-        Op::Matrix(_) => put(out, at, b"Matrix"),
-        Op::TransferFunction { .. } => put(out, at, b"TransferFunction"),
-        Op::HlgInverseOotf(_) => put(out, at, b"HlgInverseOotf"),
-        Op::ToneMapRec2408 { .. } => put(out, at, b"ToneMapRec2408"),
-        Op::ToneMapLumaRec2408 { .. } => put(out, at, b"ToneMapLumaRec2408"),
-        Op::GamutMap { .. } => put(out, at, b"GamutMap"),
-        Op::Clip => put(out, at, b"Clip"),
+        Op::XybToMixedLms { .. } => b"XybToMixedLms",
+        Op::LumaToXyz { .. } => b"LumaToXyz",
+        Op::XyzToLuma => b"XyzToLuma",
+        Op::Matrix(_) => b"Matrix",
+        Op::TransferFunction { .. } => b"TransferFunction",
+        Op::HlgInverseOotf(_) => b"HlgInverseOotf",
+        Op::ToneMapRec2408 { .. } => b"ToneMapRec2408",
+        Op::ToneMapLumaRec2408 { .. } => b"ToneMapLumaRec2408",
+        Op::GamutMap { .. } => b"GamutMap",
+        Op::Clip => b"Clip",
     }
 }
 
 // A word behind the name of an op that has the retired curve.
-pub(crate) fn put_mark(out: &mut [u8], at: usize, op: Op) -> usize
-    requires { Room out.old at (mark_of op) }
-    ensures { Put out.old at (mark_of op) out.new result }
+fn mark_of(op: Op) -> &'static [u8]
+    ensures { result.now ≡ mark_of op }
 {
-    if op::is_retired(op) {
-        return put(out, at, b" retired");
-    }
-    at
+    if op::is_retired(op) { b" retired" } else { b"" }
 }
 
-pub(crate) fn put_title(out: &mut [u8], at: usize, op: Op) -> usize
-    requires { Room out.old at (title_of op) }
-    ensures { Put out.old at (title_of op) out.new result }
+pub(crate) fn put_title(out: &mut Text, op: Op)
+    requires { array_vec_len out.old + length (title_of op) ≤ 1024 }
+    ensures { out.new.items ≡ out.old.items ++ title_of op }
 {
-    let next = put_name(out, at, op);
-    put_mark(out, next, op)
+    out.try_extend_from_slice(name_of(op)).unwrap();
+    out.try_extend_from_slice(mark_of(op)).unwrap();
 }

@@ -1,6 +1,6 @@
 -- "Merging: each longest run of matrices M1..Mk becomes one, P1 = M1 and Pi = matmul3(Mi, P(i-1)), in the run's first place.
 -- Other ops keep their order." (01, Planning)
-use Rattle.std.specs.Prelude.{List, [], ◌∷◌, map}
+use Rattle.std.specs.Prelude.{List, [], ◌∷◌, map, Ok, Err, Result}
 use Rattle.notation.specs.Choice.{when◌then◌else◌}
 use Rattle.notation.specs.Answers.{answer}
 use Rattle.notation.specs.declared.Answer.{Answer}
@@ -11,9 +11,13 @@ use Rattle.op.specs.declared.Op.{Op}
 use Rattle.op.specs.declared.Op.TheVariants as O
 use Rattle.list.specs.declared.Plan.{Plan}
 use Rattle.merge.specs.Groups.{Group, run, other, grouped}
-use Rattle.merge.specs.declared.Merging.{Merging}
-use Rattle.merge.specs.declared.Merging.TheVariants.{Done, Malformed}
+use Rattle.merge.specs.declared.MergeError.{MergeError}
+use Rattle.merge.specs.declared.MergeError.TheVariants.{Malformed}
 use Rattle.merge.specs.declared.Merged.{Merged}
+
+-- what merging answers
+abbrev pub Merging : Type 0
+Merging = Result (Unit {0}) MergeError
 
 -- "P1 = M1 and Pi = matmul3(Mi, P(i-1))": Pk, from P1 and the matrices M2..Mk
 abbrev pub run_product : Mat3 → List Mat3 → Mat3
@@ -31,12 +35,12 @@ merge_ops os = map one_op (grouped os)
 
 -- 01's answer; merging names no position and no width
 abbrev pub paper : Merging → Answer
-paper Done = answer 0 0 0
-paper Malformed = answer 10 0 0
+paper (Ok tt) = answer 0 0 0
+paper (Err Malformed) = answer 10 0 0
 
 -- Refusal 10: "merge: empty list, width 0"
 abbrev pub merge_of : Plan → Merged
 merge_of p =
     when lawful p
-    then record { answer = Done; plan = plan_of p.start (merge_ops (ops_of p)) }
-    else record { answer = Malformed; plan = no_list }
+    then record { answer = (Ok tt); plan = plan_of p.start (merge_ops (ops_of p)) }
+    else record { answer = (Err Malformed); plan = no_list }

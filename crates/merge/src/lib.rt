@@ -1,7 +1,7 @@
 // Merging: each longest run of matrices becomes one.
 #![tactic(auto)]
 
-ghost use Rattle.std.specs.Prelude.{◌≡◌, map, take};
+ghost use Rattle.std.specs.Prelude.{◌≡◌, map, length};
 ghost use Rattle.list.specs.Lists.{op_of, plan_of, Formed, appended};
 ghost use Rattle.merge.specs.Merge.{merge_ops, paper, merge_of};
 ghost use Rattle.merge.specs.Steps.{joined_by, held};
@@ -11,65 +11,53 @@ use list::{Plan, Slot};
 use notation::Answer;
 use op::Op;
 
-// What merging answers.
-#[derive(Clone, Copy)]
-pub enum Merging {
-    Done,
+// What merging refuses a list for.
+#[derive(Clone, Copy, Debug, PartialEq, Eq)]
+pub enum MergeError {
     // Refusal 10: the start width is not 1 or 3, the count is above 32, or the end width is false.
     Malformed,
 }
 
-// A refused list is the empty list with width 0.
-#[derive(Clone, Copy)]
+// A refused list is the empty list with width 0: the answer and the list stand side by side, since 01 says what both are.
+#[derive(Clone, Copy, Debug)]
 pub struct Merged {
-    pub answer: Merging,
+    pub answer: Result<(), MergeError>,
     pub plan: Plan,
 }
 
-// The product of the matrices just before an op.
-#[derive(Clone, Copy)]
-enum Run {
-    Empty,
-    Product(Mat3),
-}
-
-// The run with a matrix more, which is the left operand.
-fn joined(run: Run, m: Mat3) -> Run
+// The product of the matrices just before an op, with a matrix more, which is the left operand.
+fn joined(run: Option<Mat3>, m: Mat3) -> Option<Mat3>
     ensures { result ≡ joined_by run m }
 {
     match run {
-        Run::Empty => Run::Product(m),
-        Run::Product(p) => Run::Product(ciexyz::matmul3(m, p)),
+        None => Some(m),
+        Some(p) => Some(ciexyz::matmul3(m, p)),
     }
 }
 
 // The list with what the run became, if there is one.
-fn ended(out: Plan, run: Run) -> Plan
+fn ended(out: Plan, run: Option<Mat3>) -> Plan
     ensures { result ≡ appended out (held run) }
 {
     match run {
-        Run::Empty => list::kept(out),
-        Run::Product(p) => list::push(out, Op::Matrix(p)),
+        None => list::kept(out),
+        Some(p) => list::push(out, Op::Matrix(p)),
     }
 }
 
-fn merge_ops(slots: [Slot; 32], start: u8, count: usize) -> Plan
-    requires { Formed start count }
-    ensures { result ≡ plan_of start (merge_ops (map op_of (take count slots))) }
+fn merge_ops(ops: &[Slot], start: u8) -> Plan
+    requires { Formed start (length ops.now) }
+    ensures { result ≡ plan_of start (merge_ops (map op_of ops.now)) }
 {
     let mut out = list::empty(start);
-    let mut run = Run::Empty;
-    let mut i: usize = 0;
-    while i < count {
-        let slot = slots[i];
-        let op = slot.op;
-        if let Op::Matrix(m) = op {
+    let mut run = None;
+    for slot in ops {
+        if let Op::Matrix(m) = slot.op {
             run = joined(run, m);
         } else {
-            out = list::push(ended(out, run), op);
-            run = Run::Empty;
+            out = list::push(ended(out, run), slot.op);
+            run = None;
         }
-        i += 1;
     }
     ended(out, run)
 }
@@ -80,30 +68,22 @@ pub fn merge(plan: Plan) -> Merged
 {
     if !list::lawful(plan) {
         return Merged {
-            answer: Merging::Malformed,
+            answer: Err(MergeError::Malformed),
             plan: list::empty(0),
         };
     }
-    let start = plan.start;
-    let count = plan.count;
-    let slots = plan.ops;
     Merged {
-        answer: Merging::Done,
-        plan: merge_ops(slots, start, count),
+        answer: Ok(()),
+        plan: merge_ops(&plan.ops[..plan.count], plan.start),
     }
 }
 
 // The paper's answer.
-pub fn paper(merging: Merging) -> Answer
+pub fn paper(merging: Result<(), MergeError>) -> Answer
     ensures { result ≡ paper merging }
 {
-    let number = match merging {
-        Merging::Done => 0,
-        Merging::Malformed => 10,
-    };
-    Answer {
-        number,
-        position: 0,
-        width: 0,
+    match merging {
+        Ok(()) => Answer::done(0),
+        Err(MergeError::Malformed) => Answer::refused(10),
     }
 }

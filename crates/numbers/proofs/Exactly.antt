@@ -1,5 +1,6 @@
 -- The reading finds the encoding that fourteen numbers mean, and none where they mean none; and they mean at most one.
 -- The tests hold exactly where each number stands in its table, and there the tables give value and number back (Tables).
+use Rattle.std.specs.Prelude.{Some, None}
 use Prim.Native.Nat.{ℕ, ◌≤◌, ◌<◌}
 use mathlib.Core.Path.{◌≡◌, refl, ap, sym, subst, ◌∙◌}
 use mathlib.Core.Bool.{Bool, true, false}
@@ -22,8 +23,7 @@ use Rattle.encoding.specs.declared.ColourEncoding.{ColourEncoding}
 use Rattle.encoding.specs.declared.ColourEncoding.TheVariants as E
 use Rattle.numbers.specs.Means.{number_at, IsPoint, AreOf, Mean}
 use Rattle.numbers.specs.Sides.{natural, natural_at, space_numbered, intent_numbered, white_numbered, primaries_numbered, point_at, in_tables, encoding_in, side_of}
-use Rattle.numbers.specs.declared.Side.{Side}
-use Rattle.numbers.specs.declared.Side.TheVariants.{Means, Nothing}
+use Rattle.numbers.specs.Sides.{Side}
 use Rattle.numbers.proofs.Tables.{whole, space-small, space-back, space-number, intent-small, intent-back, intent-number, white_small, white-back, white-number, white-point, primaries-small, primaries-back, primaries-number, primaries-points, curve_small, curve_back, curve_gamma}
 
 at_most : (a b : ℕ) → (leb a b ≡ true) ↔ (a ≤ b)
@@ -32,10 +32,10 @@ at_most a b = (leb-true a b, le-leb a b)
 below : (a b : ℕ) → (ltb a b ≡ true) ↔ (a < b)
 below a b = (ltb-true a b, lt-ltb a b)
 
-inside : {e f : ColourEncoding} → Means e ≡ Means f → e ≡ f
+inside : {e f : ColourEncoding} → Some e ≡ Some f → e ≡ f
 inside h = cc
 
-no_side : {e : ColourEncoding} → Nothing ≡ Means e → ⊥
+no_side : {e : ColourEncoding} → None ≡ Some e → ⊥
 no_side h = let z : ◌≡◌ {A = ℕ} 0 1 = cc in omega arith
 
 -- the numbers of a lent array: `g` is an i32
@@ -113,7 +113,7 @@ module _ (ns : List ℤ) (held : SFits w32 (number_at ns 12)) where
     not-four : ¬ (natural_at ns 0 ≡ 4)
     not-four k = let h = small 0 _ 3 m.space (space-small e.colour_space) in absurd (omega arith)
 
-  found : (e : ColourEncoding) → Mean ns e → side_of ns ≡ Means e
+  found : (e : ColourEncoding) → Mean ns e → side_of ns ≡ Some e
   found E.IccProfile m = rw (eq-eqb (natural_at ns 0) 4 (ap natural m))
   found (E.Enum e) m = rw (ne_eqb (natural_at ns 0) 4 (not-four e m), tabled e m, encoding-is e m)
 
@@ -144,19 +144,19 @@ module _ (ns : List ℤ) (held : SFits w32 (number_at ns 12)) where
       small-gamma : natural_at ns 11 ≤ 1 → (1 < natural_at ns 11) ⊎ Small 12 0x7fff_ffff → Small 12 0x7fff_ffff
       small-gamma h = ⊎_elim (λ k. absurd (omega arith)) (λ k. k)
 
-  means : (e : ColourEncoding) → side_of ns ≡ Means e → Mean ns e
+  means : (e : ColourEncoding) → side_of ns ≡ Some e → Mean ns e
   means e k = by (eqb (natural_at ns 0) 4) (in_tables ns) refl refl
     where
       by : (a b : Bool) → eqb (natural_at ns 0) 4 ≡ a → in_tables ns ≡ b → Mean ns e
       by true b f g =
           let n = eqb-true (natural_at ns 0) 4 f in
-          let h : Means E.IccProfile ≡ Means e = sym (rw f) ∙ k in
+          let h : Some E.IccProfile ≡ Some e = sym (rw f) ∙ k in
           subst (Mean ns) (inside h) (whole (number_at ns 0) 4 (omega arith) (omega arith) ∙ ap pos n)
-      by false true f g = let h : Means (E.Enum (encoding_in ns)) ≡ Means e = sym (rw (f, g)) ∙ k in subst (Mean ns) (inside h) (read (tabled-exactly.0 g))
+      by false true f g = let h : Some (E.Enum (encoding_in ns)) ≡ Some e = sym (rw (f, g)) ∙ k in subst (Mean ns) (inside h) (read (tabled-exactly.0 g))
       by false false f g = absurd (no_side (sym (rw (f, g)) ∙ k))
 
   -- the encoding that is read is the one that the numbers mean
-  pub means_exactly : (e : ColourEncoding) → (side_of ns ≡ Means e) ↔ Mean ns e
+  pub means_exactly : (e : ColourEncoding) → (side_of ns ≡ Some e) ↔ Mean ns e
   means_exactly e = (means e, found e)
 
   -- they mean at most one
@@ -164,9 +164,9 @@ module _ (ns : List ℤ) (held : SFits w32 (number_at ns 12)) where
   at_most_one e f m n = inside (sym (found e m) ∙ found f n)
 
   -- none is read exactly where they mean none
-  pub nothing-exactly : (side_of ns ≡ Nothing) ↔ ((e : ColourEncoding) → ¬ Mean ns e)
+  pub nothing-exactly : (side_of ns ≡ None) ↔ ((e : ColourEncoding) → ¬ Mean ns e)
   nothing-exactly = (λ k e m. no_side (sym k ∙ found e m), λ h. by (side_of ns) refl h)
     where
-      by : (s : Side) → side_of ns ≡ s → ((e : ColourEncoding) → ¬ Mean ns e) → side_of ns ≡ Nothing
-      by (Means e) k h = absurd (h e (means e k))
-      by Nothing k h = k
+      by : (s : Side) → side_of ns ≡ s → ((e : ColourEncoding) → ¬ Mean ns e) → side_of ns ≡ None
+      by (Some e) k h = absurd (h e (means e k))
+      by None k h = k

@@ -1,5 +1,5 @@
 -- Which encoding fourteen numbers mean, as it is read: number by number, from tables. Definitions only.
-use Rattle.std.specs.Prelude.{ℕ, ◌+◌, Bool, not, ◌&&◌, ◌||◌, List, [], ◌∷◌, eqb, leb, ltb, ℤ, pos, negsuc, get_or}
+use Rattle.std.specs.Prelude.{ℕ, ◌+◌, Bool, not, ◌&&◌, ◌||◌, List, [], ◌∷◌, eqb, leb, ltb, ℤ, pos, negsuc, get_or, Some, None, Option}
 use Rattle.notation.specs.Choice.{when◌then◌else◌}
 use Rattle.ciexyz.specs.declared.Millionths.{Millionths}
 use Rattle.ciexyz.specs.declared.WhitePoint.{WhitePoint}
@@ -12,10 +12,13 @@ use Rattle.encoding.specs.declared.ColourSpace.TheVariants as S
 use Rattle.encoding.specs.declared.RenderingIntent.{RenderingIntent}
 use Rattle.encoding.specs.declared.RenderingIntent.TheVariants as I
 use Rattle.encoding.specs.declared.EnumColourEncoding.{EnumColourEncoding}
+use Rattle.encoding.specs.declared.ColourEncoding.{ColourEncoding}
 use Rattle.encoding.specs.declared.ColourEncoding.TheVariants as E
 use Rattle.numbers.specs.Means.{number_at}
-use Rattle.numbers.specs.declared.Side.{Side}
-use Rattle.numbers.specs.declared.Side.TheVariants.{Means, Nothing}
+
+-- what fourteen numbers mean, if each stands in its table
+abbrev pub Side : Type 0
+Side = Option ColourEncoding
 
 -- a number that is not negative; 2^32 - 1, which stands in no table, for one that is
 abbrev pub natural : ℤ → ℕ
@@ -78,6 +81,6 @@ encoding_in ns = record {
 -- "4 an ICC profile"; "Numbers that are none of the table's" mean nothing
 abbrev pub side_of : List ℤ → Side
 side_of ns =
-    when eqb (natural_at ns 0) 4 then Means E.IccProfile
-    else when not (in_tables ns) then Nothing
-    else Means (E.Enum (encoding_in ns))
+    when eqb (natural_at ns 0) 4 then Some E.IccProfile
+    else when not (in_tables ns) then None
+    else Some (E.Enum (encoding_in ns))

@@ -1,4 +1,4 @@
-// Encodings and settings as numbers, for a caller who can hand over nothing else.
+// Encodings and settings as numbers, for a caller who can hand over nothing else. Places among them stay numbers too: C has no other name for them.
 #![tactic(auto)]
 
 ghost use Rattle.std.specs.Prelude.{◌≡◌, ◌+◌, ◌<◌};
@@ -8,22 +8,11 @@ ghost use Rattle.numbers.specs.Floats.{vec3_at, settings_of};
 use ciexyz::{Millionths, Primaries, Vec3, WhitePoint};
 use encoding::{ColourEncoding, ColourSpace, EnumColourEncoding, RenderingIntent, Settings};
 
-// What fourteen numbers mean.
-#[derive(Clone, Copy)]
-pub enum Side {
-    Means(ColourEncoding),
-    // A number stands in none of the tables.
-    Nothing,
-}
-
 // A negative number is greater than any of a table.
 fn natural(n: i32) -> u32
     ensures { result ≡ natural n }
 {
-    if n < 0 {
-        return 0xffff_ffff;
-    }
-    n as u32
+    u32::try_from(n).unwrap_or(u32::MAX)
 }
 
 fn natural_at(numbers: &[i32; 14], at: usize) -> u32
@@ -33,6 +22,7 @@ fn natural_at(numbers: &[i32; 14], at: usize) -> u32
     natural(numbers[at])
 }
 
+// What each number of a table means. No TryFrom: the enums are `encoding`'s, and the numbers are those of the C door alone.
 fn space_numbered(n: u32) -> ColourSpace
     ensures { result ≡ space_numbered n }
 {
@@ -117,17 +107,17 @@ fn encoding_in(numbers: &[i32; 14]) -> EnumColourEncoding
     }
 }
 
-// Of an ICC profile nothing but its colour space is read.
-pub fn side_of(numbers: &[i32; 14]) -> Side
+// What fourteen numbers mean, if each stands in its table. Of an ICC profile nothing but its colour space is read.
+pub fn side_of(numbers: &[i32; 14]) -> Option<ColourEncoding>
     ensures { result ≡ side_of numbers.now }
 {
     if natural_at(numbers, 0) == 4 {
-        return Side::Means(ColourEncoding::IccProfile);
+        return Some(ColourEncoding::IccProfile);
     }
     if !in_tables(numbers) {
-        return Side::Nothing;
+        return None;
     }
-    Side::Means(ColourEncoding::Enum(encoding_in(numbers)))
+    Some(ColourEncoding::Enum(encoding_in(numbers)))
 }
 
 fn vec3_at(floats: &[f32; 14], at: usize) -> Vec3

@@ -9,15 +9,13 @@ use op::{Curve, HdrParams, Op};
 
 const ZERO: Cell = Cell(Value::Float(0.0));
 
-// A kind of op that has floats alone, so many of the nine.
+// A kind of op that has floats alone, so many of the nine. A kind stays a number, as `Parts` says.
 fn floats(kind: u8, count: usize, f: [f32; 9]) -> Parts
     ensures { result ≡ float_parts kind count f }
 {
     let mut cells = [ZERO; 9];
-    let mut i: usize = 0;
-    while i < 9 {
+    for i in 0..9usize {
         cells[i] = Cell(Value::Float(f[i]));
-        i += 1;
     }
     Parts { kind, count, cells }
 }

@@ -1,4 +1,4 @@
-// The numbers of the curves.
+// The numbers of the curves. Functions, and no From: both types are of other crates, and every number has a curve.
 ghost use Rattle.std.specs.Prelude.{◌≡◌};
 ghost use Rattle.parts.specs.Curves.{curve_number, gamma_of, curve_numbered};
 
@@ -26,13 +26,7 @@ pub fn gamma(curve: Curve) -> u32
 {
     match curve {
         Curve::Gamma { g, .. } => g,
-        Curve::Bt709 => 0,
-        Curve::Unknown => 0,
-        Curve::Linear => 0,
-        Curve::Srgb => 0,
-        Curve::Pq => 0,
-        Curve::Dci => 0,
-        Curve::Hlg => 0,
+        _ => 0,
     }
 }
 

@@ -11,18 +11,19 @@ use op::Curve;
 pub use together::op_by;
 
 // What stands in a field.
-#[derive(Clone, Copy)]
+#[derive(Clone, Copy, Debug, PartialEq)]
 pub enum Value {
     Float(f32),
     Flag(bool),
     Curve(Curve),
 }
 
-#[derive(Clone, Copy)]
+#[derive(Clone, Copy, Debug, PartialEq)]
 pub struct Cell(pub Value);
 
-// The kind of an op and its values, nine at most; the cells past the count hold zero.
-#[derive(Clone, Copy)]
+// The kind of an op and its values, nine at most; the cells past the count hold zero. Kept as a number and an array with a count: the bytes of a
+// plan block are these, every number has an answer (`layout_of`, `op_by`), and nothing here is on the heap.
+#[derive(Clone, Copy, Debug, PartialEq)]
 pub struct Parts {
     pub kind: u8,
     pub count: usize,

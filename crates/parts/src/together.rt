@@ -6,17 +6,15 @@ use crate::{Cell, Value};
 use ciexyz::{Vec3, Xy};
 use op::{Curve, HdrParams, Luminances, Op};
 
-// What a cell holds; zero, off or Linear where it holds the value of another field.
+// What a cell holds; zero, off or Linear where it holds the value of another field. Three functions, since a trait for three variants is longer. The
+// places stay numbers: a type for them would say no more than `i < 9`, which the check finds of each place in `op_by`.
 fn float_at(cells: [Cell; 9], i: usize) -> f32
     requires { i < 9 }
     ensures { result ≡ float_from (map value_of cells) i }
 {
-    let cell = cells[i];
-    let value = cell.0;
-    match value {
+    match cells[i].0 {
         Value::Float(x) => x,
-        Value::Flag(_) => 0.0,
-        Value::Curve(_) => 0.0,
+        _ => 0.0,
     }
 }
 
@@ -24,12 +22,9 @@ fn flag_at(cells: [Cell; 9], i: usize) -> bool
     requires { i < 9 }
     ensures { result ≡ flag_from (map value_of cells) i }
 {
-    let cell = cells[i];
-    let value = cell.0;
-    match value {
-        Value::Float(_) => false,
+    match cells[i].0 {
         Value::Flag(b) => b,
-        Value::Curve(_) => false,
+        _ => false,
     }
 }
 
@@ -37,12 +32,9 @@ fn curve_at(cells: [Cell; 9], i: usize) -> Curve
     requires { i < 9 }
     ensures { result ≡ curve_from (map value_of cells) i }
 {
-    let cell = cells[i];
-    let value = cell.0;
-    match value {
-        Value::Float(_) => Curve::Linear,
-        Value::Flag(_) => Curve::Linear,
+    match cells[i].0 {
         Value::Curve(c) => c,
+        _ => Curve::Linear,
     }
 }
 
@@ -80,7 +72,7 @@ fn params_at(cells: [Cell; 9], i: usize) -> HdrParams
     }
 }
 
-// The op of a kind with these values; Clip for an unknown kind.
+// The op of a kind with these values; Clip for an unknown kind. A kind stays a number, as `Parts` says.
 pub fn op_by(kind: u8, cells: [Cell; 9]) -> Op
     ensures { result ≡ op_by kind (map value_of cells) }
 {

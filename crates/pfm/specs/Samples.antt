@@ -1,6 +1,6 @@
 -- Samples as bytes: four each, the lowest first where the scale is negative and else the highest; pixel after pixel, and of a pixel's three
 -- channels one behind the other. Definitions only.
-use Rattle.std.specs.Prelude.{ℕ, zero, suc, ◌+◌, ◌*◌, Bool, ◌&&◌, List, [], ◌∷◌, ◌++◌, reverse, eqb, Float, length, replicate}
+use Rattle.std.specs.Prelude.{ℕ, zero, suc, ◌+◌, ◌*◌, Bool, ◌&&◌, List, [], ◌∷◌, ◌++◌, reverse, eqb, Float, length, replicate, Result, Ok, Err}
 use Rattle.std.specs.Float.{binary32}
 use Rattle.std.specs.Float.Ieee.{to_bits}
 use Rattle.notation.specs.Choice.{when◌then◌else◌}
@@ -10,6 +10,7 @@ use Rattle.ciexyz.specs.declared.Vec3.{Vec3}
 use Rattle.channels.specs.Channels.{Channels, channels, same_lengths, triples}
 use Rattle.block.specs.Fields.{byte_at}
 use Rattle.writer.specs.Bytes.{joined, u32_bytes}
+use Rattle.pfm.specs.declared.samples.Unfit.{Unfit}
 
 -- four bytes from a place on, the lowest first, or the highest
 abbrev pub low_first : List ℕ → ℕ → ℕ
@@ -39,6 +40,13 @@ fits_by size bytes a b c = same_lengths a b c && eqb bytes (a * size)
 
 abbrev pub fits : ℕ → List ℕ → Channels → Bool
 fits size s ch = fits_by size (length s) (length ch.a) (length ch.b) (length ch.c)
+
+-- what a function tells that is done where lengths fit
+abbrev pub Fitting : Type 0
+Fitting = Result Unit Unfit
+
+abbrev pub told : Bool → Fitting
+told fits = when fits then Ok tt else Err (record {})
 
 -- what is taken from bytes: three channels, or one with two that are zeros
 abbrev pub three_from : Bool → List ℕ → Channels → Channels

@@ -1,9 +1,9 @@
-// The header of a portable float map, read byte by byte.
+// The header of a portable float map, read byte by byte. Functions of what was read and a place, as the specification has them.
 ghost use Rattle.std.specs.Prelude.{◌≡◌};
-ghost use Rattle.pfm.specs.Header.{is_digit, is_space, space_by, size_by, on_start, on_kind, on_marked, on_width, on_height, on_scale, on_whole, on_sign, step_of, begun, header_of};
+ghost use Rattle.pfm.specs.Header.{is_digit, is_space, space_by, size_by, at, on_start, on_kind, on_marked, on_width, on_height, on_scale, on_whole, on_sign, step_of, begun, header_of};
 
-// Where the reading is.
-#[derive(Clone, Copy)]
+// Where the reading is. Kept as stages, refusals among them: the contract of `step` goes by them, and leaves beside each what was read so far.
+#[derive(Clone, Copy, Debug, PartialEq, Eq)]
 pub enum Stage {
     // Before the P.
     Start,
@@ -28,7 +28,7 @@ pub enum Stage {
 }
 
 // What the header says, as far as it was read.
-#[derive(Clone, Copy)]
+#[derive(Clone, Copy, Debug, PartialEq, Eq)]
 pub struct Numbers {
     // 3, or 1.
     pub channels: u8,
@@ -44,14 +44,14 @@ pub struct Numbers {
     pub used: usize,
 }
 
-#[derive(Clone, Copy)]
+#[derive(Clone, Copy, Debug, PartialEq, Eq)]
 pub struct Header {
     pub stage: Stage,
     pub numbers: Numbers,
 }
 
 // What a byte makes of a number that is read digit by digit.
-#[derive(Clone, Copy)]
+#[derive(Clone, Copy, Debug, PartialEq, Eq)]
 enum Size {
     Grows(u32),
     Waits,
@@ -62,14 +62,20 @@ enum Size {
 fn is_digit(c: u8) -> bool
     ensures { result ≡ is_digit c }
 {
-    (48 <= c) & (c <= 57)
+    matches!(c, b'0'..=b'9')
 }
 
 // Space, and from tab to carriage return.
 fn is_space(c: u8) -> bool
     ensures { result ≡ is_space c }
 {
-    (c == 32) | ((9 <= c) & (c <= 13))
+    matches!(c, b' ' | 9..=13)
+}
+
+fn at(stage: Stage, numbers: Numbers) -> Header
+    ensures { result ≡ at stage numbers }
+{
+    Header { stage, numbers }
 }
 
 fn space_by(begun: bool, n: u32) -> Size
@@ -84,16 +90,14 @@ fn space_by(begun: bool, n: u32) -> Size
     Size::Ends
 }
 
+// By hand: a digit at a time, and up to 2,147,483,647.
 fn size_by(begun: bool, n: u32, c: u8) -> Size
     ensures { result ≡ size_by begun n c }
 {
     if is_space(c) {
         return space_by(begun, n);
     }
-    if c < 48 {
-        return Size::Wrong;
-    }
-    if 57 < c {
+    if !is_digit(c) {
         return Size::Wrong;
     }
     let next = 10 * (n as u64) + (c as u64 - 48);
@@ -106,39 +110,19 @@ fn size_by(begun: bool, n: u32, c: u8) -> Size
 fn on_start(n: Numbers, c: u8) -> Header
     ensures { result ≡ on_start n c }
 {
-    if c == 80 {
-        return Header {
-            stage: Stage::Kind,
-            numbers: n,
-        };
+    if c == b'P' {
+        return at(Stage::Kind, n);
     }
-    Header {
-        stage: Stage::NotPfm,
-        numbers: n,
-    }
+    at(Stage::NotPfm, n)
 }
 
 fn on_kind(n: Numbers, c: u8) -> Header
     ensures { result ≡ on_kind n c }
 {
-    let mut next = n;
-    if c == 70 {
-        next.channels = 3;
-        return Header {
-            stage: Stage::Marked,
-            numbers: next,
-        };
-    }
-    if c == 102 {
-        next.channels = 1;
-        return Header {
-            stage: Stage::Marked,
-            numbers: next,
-        };
-    }
-    Header {
-        stage: Stage::NotPfm,
-        numbers: n,
+    match c {
+        b'F' => at(Stage::Marked, Numbers { channels: 3, ..n }),
+        b'f' => at(Stage::Marked, Numbers { channels: 1, ..n }),
+        _ => at(Stage::NotPfm, n),
     }
 }
 
@@ -146,176 +130,101 @@ fn on_marked(n: Numbers, c: u8) -> Header
     ensures { result ≡ on_marked n c }
 {
     if is_space(c) {
-        return Header {
-            stage: Stage::BeforeWidth,
-            numbers: n,
-        };
+        return at(Stage::BeforeWidth, n);
     }
-    Header {
-        stage: Stage::NotPfm,
-        numbers: n,
-    }
+    at(Stage::NotPfm, n)
 }
 
 fn on_width(n: Numbers, size: Size) -> Header
     ensures { result ≡ on_width n size }
 {
     match size {
-        Size::Grows(width) => {
-            let mut next = n;
-            next.width = width;
-            Header {
-                stage: Stage::Width,
-                numbers: next,
-            }
-        }
-        Size::Waits => Header {
-            stage: Stage::BeforeWidth,
-            numbers: n,
-        },
-        Size::Ends => Header {
-            stage: Stage::BeforeHeight,
-            numbers: n,
-        },
-        Size::Wrong => Header {
-            stage: Stage::BadSize,
-            numbers: n,
-        },
+        Size::Grows(width) => at(Stage::Width, Numbers { width, ..n }),
+        Size::Waits => at(Stage::BeforeWidth, n),
+        Size::Ends => at(Stage::BeforeHeight, n),
+        Size::Wrong => at(Stage::BadSize, n),
     }
 }
 
-fn on_height(n: Numbers, at: usize, size: Size) -> Header
-    ensures { result ≡ on_height n at size }
+fn on_height(n: Numbers, place: usize, size: Size) -> Header
+    ensures { result ≡ on_height n place size }
 {
-    let mut next = n;
     match size {
-        Size::Grows(height) => {
-            next.height = height;
-            Header {
-                stage: Stage::Height,
-                numbers: next,
-            }
-        }
-        Size::Waits => Header {
-            stage: Stage::BeforeHeight,
-            numbers: n,
-        },
-        Size::Ends => {
-            next.sized = at;
-            Header {
-                stage: Stage::BeforeScale,
-                numbers: next,
-            }
-        }
-        Size::Wrong => Header {
-            stage: Stage::BadSize,
-            numbers: n,
-        },
+        Size::Grows(height) => at(Stage::Height, Numbers { height, ..n }),
+        Size::Waits => at(Stage::BeforeHeight, n),
+        Size::Ends => at(Stage::BeforeScale, Numbers { sized: place, ..n }),
+        Size::Wrong => at(Stage::BadSize, n),
     }
 }
 
 // The scale is a sign, digits, and a point among them; not every digit is 0.
-fn on_scale(n: Numbers, at: usize, c: u8, stage: Stage) -> Header
-    ensures { result ≡ on_scale n at c stage }
+fn on_scale(n: Numbers, place: usize, c: u8, stage: Stage) -> Header
+    ensures { result ≡ on_scale n place c stage }
 {
-    let mut next = n;
     if is_digit(c) {
-        next.nonzero = n.nonzero | (c != 48);
-        return Header {
-            stage,
-            numbers: next,
-        };
+        let nonzero = n.nonzero | (c != 48);
+        return at(stage, Numbers { nonzero, ..n });
     }
-    if !is_space(c) {
-        return Header {
-            stage: Stage::BadScale,
-            numbers: n,
-        };
+    if !is_space(c) || !n.nonzero {
+        return at(Stage::BadScale, n);
     }
-    if !n.nonzero {
-        return Header {
-            stage: Stage::BadScale,
-            numbers: n,
-        };
-    }
-    next.used = at;
-    Header {
-        stage: Stage::Done,
-        numbers: next,
-    }
+    at(Stage::Done, Numbers { used: place, ..n })
 }
 
-fn on_whole(n: Numbers, at: usize, c: u8) -> Header
-    ensures { result ≡ on_whole n at c }
+fn on_whole(n: Numbers, place: usize, c: u8) -> Header
+    ensures { result ≡ on_whole n place c }
 {
-    if c == 46 {
-        return Header {
-            stage: Stage::Fraction,
-            numbers: n,
-        };
+    if c == b'.' {
+        return at(Stage::Fraction, n);
     }
-    on_scale(n, at, c, Stage::Whole)
+    on_scale(n, place, c, Stage::Whole)
 }
 
-fn on_sign(n: Numbers, at: usize, c: u8) -> Header
-    ensures { result ≡ on_sign n at c }
+fn on_sign(n: Numbers, place: usize, c: u8) -> Header
+    ensures { result ≡ on_sign n place c }
 {
     if is_space(c) {
-        return Header {
-            stage: Stage::BeforeScale,
-            numbers: n,
-        };
+        return at(Stage::BeforeScale, n);
     }
-    if c == 45 {
-        let mut next = n;
-        next.little = true;
-        return Header {
-            stage: Stage::Whole,
-            numbers: next,
-        };
+    if c == b'-' {
+        return at(Stage::Whole, Numbers { little: true, ..n });
     }
-    on_whole(n, at, c)
+    on_whole(n, place, c)
 }
 
-// One byte; `at` is the place behind it.
-fn step(h: Header, at: usize, c: u8) -> Header
-    ensures { result ≡ step_of h at c }
+// One byte; `place` is the place behind it.
+fn step(h: Header, place: usize, c: u8) -> Header
+    ensures { result ≡ step_of h place c }
 {
     let n = h.numbers;
-    let stage = h.stage;
-    match stage {
+    match h.stage {
         Stage::Start => on_start(n, c),
         Stage::Kind => on_kind(n, c),
         Stage::Marked => on_marked(n, c),
         Stage::BeforeWidth => on_width(n, size_by(false, 0, c)),
         Stage::Width => on_width(n, size_by(true, n.width, c)),
-        Stage::BeforeHeight => on_height(n, at, size_by(false, 0, c)),
-        Stage::Height => on_height(n, at, size_by(true, n.height, c)),
-        Stage::BeforeScale => on_sign(n, at, c),
-        Stage::Whole => on_whole(n, at, c),
-        Stage::Fraction => on_scale(n, at, c, Stage::Fraction),
-        Stage::Done => h,
-        Stage::NotPfm => h,
-        Stage::BadSize => h,
-        Stage::BadScale => h,
+        Stage::BeforeHeight => on_height(n, place, size_by(false, 0, c)),
+        Stage::Height => on_height(n, place, size_by(true, n.height, c)),
+        Stage::BeforeScale => on_sign(n, place, c),
+        Stage::Whole => on_whole(n, place, c),
+        Stage::Fraction => on_scale(n, place, c, Stage::Fraction),
+        Stage::Done | Stage::NotPfm | Stage::BadSize | Stage::BadScale => h,
     }
 }
 
 fn begun() -> Header
     ensures { result ≡ begun }
 {
-    Header {
-        stage: Stage::Start,
-        numbers: Numbers {
-            channels: 0,
-            width: 0,
-            height: 0,
-            little: false,
-            nonzero: false,
-            sized: 0,
-            used: 0,
-        },
-    }
+    let none = Numbers {
+        channels: 0,
+        width: 0,
+        height: 0,
+        little: false,
+        nonzero: false,
+        sized: 0,
+        used: 0,
+    };
+    at(Stage::Start, none)
 }
 
 // The header at the front of these bytes; bytes behind it change nothing.
@@ -323,10 +232,8 @@ pub fn read(s: &[u8]) -> Header
     ensures { result ≡ header_of s.now }
 {
     let mut h = begun();
-    let mut i: usize = 0;
-    while i < s.len() {
-        h = step(h, i + 1, s[i]);
-        i += 1;
+    for (i, c) in s.iter().enumerate() {
+        h = step(h, i + 1, *c);
     }
     h
 }

@@ -7,4 +7,4 @@ mod samples;
 
 pub use headers::{Header, Numbers, Stage, read};
 pub use pixmap::pixels_to;
-pub use samples::{channels_from, one_from, one_to, three_from, three_to};
+pub use samples::{Unfit, channels_from, one_from, one_to, three_from, three_to};

@@ -1,40 +1,36 @@
-// Samples as the bytes of a portable float map.
+// Samples as the bytes of a portable float map. Which byte comes first stays a bool, the header's own: the contracts take it.
+// Three slices, as `channels` says.
 ghost use Rattle.std.specs.Prelude.{◌≡◌, ◌+◌, ◌*◌, ◌≤◌, ◌<◌, eqb, length, replicate};
-ghost use Rattle.std.specs.Float.{binary32};
-ghost use Rattle.std.specs.Float.Ieee.{to_bits};
 ghost use Rattle.notation.specs.F32.{zero};
 ghost use Rattle.channels.specs.Channels.{EquallyLong, channels, triples};
-ghost use Rattle.buffer.specs.Buffer.{Room, Put};
 ghost use Rattle.writer.specs.Bytes.{joined};
-ghost use Rattle.pfm.specs.Samples.{word_at, sample_at, channel_in, fits_by, fits, three_from, one_from, word_bytes, sample_bytes, pixel_bytes, three_to, fits_one, one_to, size_of, channels_from};
+ghost use Rattle.pfm.specs.Samples.{word_at, sample_at, channel_in, told, fits_by, fits, three_from, one_from, word_bytes, sample_bytes, pixel_bytes, three_to, fits_one, one_to, size_of, channels_from};
 
 use ciexyz::Vec3;
 
-// Four bytes as a number, the lowest first.
-fn word(a: u8, b: u8, c: u8, d: u8) -> u32
-    ensures { result ≡ a + 0x100 * b + 0x1_0000 * (c + 0x100 * d) }
-{
-    a as u32 + 0x100 * (b as u32) + 0x1_0000 * (c as u32 + 0x100 * (d as u32))
-}
+// The lengths do not fit, and nothing was changed. A type of its own: no number refuses it.
+#[derive(Clone, Copy, Debug, PartialEq, Eq)]
+pub struct Unfit;
 
 // Four bytes from a place on.
 fn word_at(s: &[u8], at: usize, little: bool) -> u32
     requires { at + 4 ≤ length s.now }
     ensures { result ≡ word_at little s.now at }
 {
+    let bytes = [s[at], s[at + 1], s[at + 2], s[at + 3]];
     if little {
-        return word(s[at], s[at + 1], s[at + 2], s[at + 3]);
+        return u32::from_le_bytes(bytes);
     }
-    word(s[at + 3], s[at + 2], s[at + 1], s[at])
+    u32::from_be_bytes(bytes)
 }
 
 // Every NaN's pattern is the one NaN.
+#[tactic(auto, unfolding(crate::specs::Samples::sample_at))]
 fn sample_at(s: &[u8], at: usize, little: bool) -> f32
     requires { at + 4 ≤ length s.now }
     ensures { result ≡ sample_at little s.now at }
 {
-    let bits = word_at(s, at, little) as u64;
-    binary32::put_together(bits >= 0x8000_0000, bits % 0x8000_0000)
+    binary32::from_pattern(word_at(s, at, little))
 }
 
 // One channel of pixels of `size` bytes, from this place in each pixel on.
@@ -42,105 +38,97 @@ fn channel_from(s: &[u8], size: usize, from: usize, little: bool, out: &mut [f32
     requires { (length s.now ≡ length out.old * size) × (from + 4 ≤ size) }
     ensures { out.new ≡ channel_in little s.now size from (length out.old) }
 {
-    let mut i: usize = 0;
-    while i < out.len() {
-        out[i] = sample_at(s, i * size + from, little);
-        i += 1;
+    for (i, x) in out.iter_mut().enumerate() {
+        *x = sample_at(s, i * size + from, little);
     }
 }
 
 fn zeros(out: &mut [f32])
     ensures { out.new ≡ replicate (length out.old) zero }
 {
-    let mut i: usize = 0;
-    while i < out.len() {
-        out[i] = 0.0;
-        i += 1;
-    }
+    out.fill(0.0);
 }
 
 // Whether a number is a product, which itself might not fit.
 fn is_product(n: usize, count: usize, size: usize) -> bool
-    requires { 0 < size }
     ensures { result ≡ eqb n (count * size) }
 {
-    (n / size == count) & (n % size == 0)
+    count.checked_mul(size) == Some(n)
+}
+
+fn told(fits: bool) -> Result<(), Unfit>
+    ensures { result ≡ told fits }
+{
+    if fits { Ok(()) } else { Err(Unfit) }
 }
 
 // Whether so many bytes are those of the pixels of three channels.
-pub(crate) fn fit(bytes: usize, a: usize, b: usize, c: usize, size: usize) -> bool
-    requires { 0 < size }
-    ensures { result ≡ fits_by size bytes a b c }
+pub(crate) fn fit(bytes: usize, a: usize, b: usize, c: usize, size: usize) -> Result<(), Unfit>
+    ensures { result ≡ told (fits_by size bytes a b c) }
 {
-    channels::same_lengths(a, b, c) & is_product(bytes, a, size)
+    told(channels::same_lengths(a, b, c) & is_product(bytes, a, size))
 }
 
-// The samples of three channels from bytes; false, and no sample changed, where the lengths do not fit.
-pub fn three_from(s: &[u8], little: bool, a: &mut [f32], b: &mut [f32], c: &mut [f32]) -> bool
-    ensures value { result ≡ fits 12 s.now (channels a.old b.old c.old) }
+// The samples of three channels from bytes, where the lengths fit.
+pub fn three_from(
+    s: &[u8],
+    little: bool,
+    a: &mut [f32],
+    b: &mut [f32],
+    c: &mut [f32],
+) -> Result<(), Unfit>
+    ensures value { result ≡ told (fits 12 s.now (channels a.old b.old c.old)) }
     ensures c_after { channels a.new b.new c.new ≡ three_from little s.now (channels a.old b.old c.old) }
 {
-    if !fit(s.len(), a.len(), b.len(), c.len(), 12) {
-        return false;
-    }
+    fit(s.len(), a.len(), b.len(), c.len(), 12)?;
     channel_from(s, 12, 0, little, a);
     channel_from(s, 12, 4, little, b);
     channel_from(s, 12, 8, little, c);
-    true
+    Ok(())
 }
 
-// The samples of one channel, and zeros in the two others.
-pub fn one_from(s: &[u8], little: bool, a: &mut [f32], b: &mut [f32], c: &mut [f32]) -> bool
-    ensures value { result ≡ fits 4 s.now (channels a.old b.old c.old) }
+// The samples of one channel, and zeros in the two others. Kept beside `three_from`: a form of both would take what fills the others.
+pub fn one_from(
+    s: &[u8],
+    little: bool,
+    a: &mut [f32],
+    b: &mut [f32],
+    c: &mut [f32],
+) -> Result<(), Unfit>
+    ensures value { result ≡ told (fits 4 s.now (channels a.old b.old c.old)) }
     ensures c_after { channels a.new b.new c.new ≡ one_from little s.now (channels a.old b.old c.old) }
 {
-    if !fit(s.len(), a.len(), b.len(), c.len(), 4) {
-        return false;
-    }
+    fit(s.len(), a.len(), b.len(), c.len(), 4)?;
     channel_from(s, 4, 0, little, a);
     zeros(b);
     zeros(c);
-    true
+    Ok(())
+}
+
+fn word_bytes(n: u32, little: bool) -> [u8; 4]
+    ensures { result ≡ word_bytes little n }
+{
+    if little {
+        n.to_le_bytes()
+    } else {
+        n.to_be_bytes()
+    }
 }
 
 // A NaN is put as 7fc00000.
-fn pattern(x: f32) -> u32
-    ensures { result ≡ to_bits binary32 x }
+fn sample_bytes(x: f32, little: bool) -> [u8; 4]
+    ensures { result ≡ sample_bytes little x }
 {
-    if x != x {
-        return 0x7fc0_0000;
-    }
-    f32::to_bits(x)
+    word_bytes(binary32::to_pattern(x), little)
 }
 
-fn put_word(out: &mut [u8], at: usize, n: u32, little: bool) -> usize
-    requires { Room out.old at (word_bytes little n) }
-    ensures { Put out.old at (word_bytes little n) out.new result }
+fn pixel_bytes(v: Vec3, little: bool) -> [u8; 12]
+    ensures { result ≡ pixel_bytes little v }
 {
-    let a = (n % 0x100) as u8;
-    let b = (n / 0x100 % 0x100) as u8;
-    let c = (n / 0x100 / 0x100 % 0x100) as u8;
-    let d = (n / 0x100 / 0x100 / 0x100 % 0x100) as u8;
-    if little {
-        return buffer::put(out, at, &[a, b, c, d]);
-    }
-    buffer::put(out, at, &[d, c, b, a])
-}
-
-fn put_sample(out: &mut [u8], at: usize, x: f32, little: bool) -> usize
-    requires { Room out.old at (sample_bytes little x) }
-    ensures { Put out.old at (sample_bytes little x) out.new result }
-{
-    put_word(out, at, pattern(x), little)
-}
-
-fn put_pixel(out: &mut [u8], at: usize, v: Vec3, little: bool) -> usize
-    requires { Room out.old at (pixel_bytes little v) }
-    ensures { Put out.old at (pixel_bytes little v) out.new result }
-{
-    let second = put_sample(out, at, v.v0, little);
-    let third = put_sample(out, second, v.v1, little);
-    put_sample(out, third, v.v2, little)
+    let [a, b, c, d] = sample_bytes(v.v0, little);
+    let [e, f, g, h] = sample_bytes(v.v1, little);
+    let [i, j, k, l] = sample_bytes(v.v2, little);
+    [a, b, c, d, e, f, g, h, i, j, k, l]
 }
 
 fn put_pixels(out: &mut [u8], a: &[f32], b: &[f32], c: &[f32], little: bool)
@@ -149,15 +137,13 @@ fn put_pixels(out: &mut [u8], a: &[f32], b: &[f32], c: &[f32], little: bool)
     ensures { out.new ≡ joined (pixel_bytes little) (triples a.now b.now c.now) }
 {
     let mut at: usize = 0;
-    let mut i: usize = 0;
-    while i < a.len() {
+    for i in 0..a.len() {
         let v = Vec3 {
             v0: a[i],
             v1: b[i],
             v2: c[i],
         };
-        at = put_pixel(out, at, v, little);
-        i += 1;
+        at = buffer::put(out, at, &pixel_bytes(v, little));
     }
 }
 
@@ -166,35 +152,29 @@ fn put_samples(out: &mut [u8], a: &[f32], little: bool)
     ensures { out.new ≡ joined (sample_bytes little) a.now }
 {
     let mut at: usize = 0;
-    let mut i: usize = 0;
-    while i < a.len() {
-        at = put_sample(out, at, a[i], little);
-        i += 1;
+    for x in a {
+        at = buffer::put(out, at, &sample_bytes(*x, little));
     }
 }
 
-// Three channels as bytes; false, and no byte changed, where the lengths do not fit.
-pub fn three_to(a: &[f32], b: &[f32], c: &[f32], little: bool, out: &mut [u8]) -> bool
-    ensures value { result ≡ fits 12 out.old (channels a.now b.now c.now) }
+// Three channels as bytes, where the lengths fit.
+pub fn three_to(a: &[f32], b: &[f32], c: &[f32], little: bool, out: &mut [u8]) -> Result<(), Unfit>
+    ensures value { result ≡ told (fits 12 out.old (channels a.now b.now c.now)) }
     ensures out_after { out.new ≡ three_to little (channels a.now b.now c.now) out.old }
 {
-    if !fit(out.len(), a.len(), b.len(), c.len(), 12) {
-        return false;
-    }
+    fit(out.len(), a.len(), b.len(), c.len(), 12)?;
     put_pixels(out, a, b, c, little);
-    true
+    Ok(())
 }
 
 // One channel as bytes.
-pub fn one_to(a: &[f32], little: bool, out: &mut [u8]) -> bool
-    ensures value { result ≡ fits_one out.old a.now }
+pub fn one_to(a: &[f32], little: bool, out: &mut [u8]) -> Result<(), Unfit>
+    ensures value { result ≡ told (fits_one out.old a.now) }
     ensures out_after { out.new ≡ one_to little a.now out.old }
 {
-    if !is_product(out.len(), a.len(), 4) {
-        return false;
-    }
+    told(is_product(out.len(), a.len(), 4))?;
     put_samples(out, a, little);
-    true
+    Ok(())
 }
 
 // Three channels, or one and zeros in the two others.
@@ -205,8 +185,8 @@ pub fn channels_from(
     a: &mut [f32],
     b: &mut [f32],
     c: &mut [f32],
-) -> bool
-    ensures value { result ≡ fits (size_of count) s.now (channels a.old b.old c.old) }
+) -> Result<(), Unfit>
+    ensures value { result ≡ told (fits (size_of count) s.now (channels a.old b.old c.old)) }
     ensures c_after { channels a.new b.new c.new ≡ channels_from count little s.now (channels a.old b.old c.old) }
 {
     if count == 3 {

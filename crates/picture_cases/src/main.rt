@@ -1,9 +1,10 @@
 // Bad input for pictures and plans in words: what was given, and what the library answers.
 #![tactic(auto)]
 
-use pfm::Stage;
+use pfm::{Stage, Unfit};
 use std::io;
 
+// No Display: these are the words of this program alone.
 fn name(stage: Stage) -> &'static str {
     match stage {
         Stage::Done => "read",
@@ -40,10 +41,9 @@ fn more_headers(rt: &impl Print) -> io::Result<()> {
 
 fn show_words(rt: &impl Print, given: &str, text: &[u8]) -> io::Result<()> {
     let filling = wording::filled(text);
-    if !filling.fault {
+    let Some(place) = filling.fault else {
         return println!(rt; "{given}: understood");
-    }
-    let place = filling.place;
+    };
     let line = wording::line_of(text, place);
     let word = wording::word_of(text, place);
     println!(rt; "{given}: not understood at line {line}, word {word}")
@@ -80,15 +80,15 @@ fn words(rt: &impl Print) -> io::Result<()> {
     show_words(rt, "no target", b"source Icc\n")
 }
 
-fn show_kept(rt: &impl Print, given: &str, done: bool, kept: bool) -> io::Result<()> {
-    if !done & kept {
+fn show_kept(rt: &impl Print, given: &str, done: Result<(), Unfit>, kept: bool) -> io::Result<()> {
+    if done.is_err() & kept {
         return println!(rt; "{given}: refused, and nothing changed");
     }
     println!(rt; "{given}: NOT refused, or something changed")
 }
 
 fn are_sevens(a: &[f32; 2]) -> bool {
-    (a[0] == 7.0) & (a[1] == 7.0)
+    *a == [7.0; 2]
 }
 
 fn from_bytes(rt: &impl Print) -> io::Result<()> {
@@ -118,7 +118,7 @@ fn from_unequal(rt: &impl Print) -> io::Result<()> {
 }
 
 fn are_eights(s: &[u8; 5]) -> bool {
-    (s[0] == 8) & (s[1] == 8) & (s[2] == 8) & (s[3] == 8) & (s[4] == 8)
+    *s == [8; 5]
 }
 
 fn to_bytes(rt: &impl Print) -> io::Result<()> {

@@ -1,13 +1,18 @@
 // What the programs for pictures share: how large a strip is, how it is read, what they say of a header, and where a picture ends.
 #![tactic(auto)]
 
-ghost use Rattle.std.specs.Prelude.{◌≡◌, ◌+◌, ◌≤◌, ◌<◌, IfOk, length};
+mod ahead;
 
+ghost use Rattle.std.specs.Prelude.{◌≡◌, ◌+◌, ◌*◌, ◌≤◌, ◌<◌, ◌⊎◌, IfOk, IsTrue, length, take};
+
+pub use ahead::Ahead;
 use pfm::Stage;
 use std::io;
 use std::rt::Files;
 
-pub fn pixels_of(width: u32, height: u32) -> u64 {
+pub fn pixels_of(width: u32, height: u32) -> u64
+    ensures { result ≡ width * height }
+{
     width as u64 * height as u64
 }
 
@@ -15,14 +20,7 @@ pub fn pixels_of(width: u32, height: u32) -> u64 {
 fn strip_by(width: u32) -> u64
     ensures { (0 < result) × (result ≤ 65536) }
 {
-    let lines = 16 * (width as u64);
-    if lines < 1_024 {
-        return 1_024;
-    }
-    if 65_536 < lines {
-        return 65_536;
-    }
-    lines
+    (16 * (width as u64)).clamp(1_024, 65_536)
 }
 
 // The pixels of the next strip, where so many are left.
@@ -30,14 +28,11 @@ pub fn strip_of(width: u32, left: u64) -> usize
     requires { 0 < left }
     ensures { (0 < result) × (result ≤ left) × (result ≤ 65536) }
 {
-    let strip = strip_by(width);
-    if left < strip {
-        return left as usize;
-    }
-    strip as usize
+    strip_by(width).min(left) as usize
 }
 
 // Zeros, for the samples of a channel of a strip. Of these four the `ensures` gives only the length, which lending a part needs.
+// Kept as four: they differ in what they are zeros of too, and each name says what it is room for.
 pub fn samples() -> [f32; 65536]
     ensures { 65536 ≡ length result }
 {
@@ -65,7 +60,8 @@ pub fn room() -> [u8; 790528]
     [0; 790528]
 }
 
-// The bytes of a strip's pixels, of so many channels.
+// The bytes of a strip's pixels, of so many channels. A number of pixels stays a number: each caller takes it to the lengths of several rooms, and a
+// type for it would be opened at each.
 pub fn bytes_of(channels: u8, pixels: usize) -> usize
     requires { pixels ≤ 65536 }
     ensures { result ≤ 786432 }
@@ -77,9 +73,13 @@ pub fn bytes_of(channels: u8, pixels: usize) -> usize
 }
 
 // Reads on until the input has so many bytes at its front, of which it holds some, or until there are no more; how many it then holds.
+// Those that it holds stay, where reading fails too.
 pub fn filled(rt: &impl Input, input: &mut [u8], held: usize, want: usize) -> io::Result<usize>
     requires { want ≤ length input.old }
-    ensures { IfOk result (λ n. n ≤ held + want) }
+    ensures whole { IfOk result (λ n. n ≤ held + want) }
+    ensures one { IfOk result (λ n. (n ≤ held) ⊎ (n ≤ want)) }
+    ensures more { IfOk result (λ n. held ≤ n) }
+    ensures front { take held input.new ≡ take held input.old }
 {
     if want <= held {
         return Ok(held);
@@ -89,10 +89,7 @@ pub fn filled(rt: &impl Input, input: &mut [u8], held: usize, want: usize) -> io
 }
 
 pub fn is_done(stage: Stage) -> bool {
-    match stage {
-        Stage::Done => true,
-        _ => false,
-    }
+    stage == Stage::Done
 }
 
 pub fn header_refused(rt: &(impl Eprint + Files), program: &str, stage: Stage) -> io::Result<()> {
@@ -111,11 +108,9 @@ pub fn header_refused(rt: &(impl Eprint + Files), program: &str, stage: Stage) -
 }
 
 // Whether nothing comes behind the picture; `extra` bytes were read already.
-pub fn at_end(rt: &impl Input, extra: usize) -> io::Result<bool> {
+pub fn at_end(rt: &impl Input, extra: usize) -> io::Result<bool>
+    ensures { IfOk result (λ yes. IsTrue yes → extra ≡ 0) }
+{
     let mut more = [0u8; 1];
-    if extra == 0 {
-        let came = saying::read_full(rt, &mut more)?;
-        return Ok(came == 0);
-    }
-    Ok(false)
+    Ok(extra == 0 && saying::read_full(rt, &mut more)? == 0)
 }

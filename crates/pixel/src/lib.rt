@@ -10,7 +10,7 @@ ghost use Rattle.pixel.specs.Steps.{Fits, Scaled};
 use weights::{Pixel, Weights};
 
 // The products of the weights, worked out once for a channel.
-#[derive(Clone, Copy)]
+#[derive(Clone, Copy, Debug, PartialEq, Eq)]
 pub struct Factors {
     // N
     n: u32,
@@ -29,10 +29,7 @@ pub struct Factors {
 fn capped(x: u64) -> u32
     ensures { result ≡ capped x }
 {
-    if x < 0xffff_ffff {
-        return x as u32;
-    }
-    0xffff_ffff
+    x.min(0xffff_ffff) as u32
 }
 
 pub fn factors_of(w: Weights) -> Factors
@@ -69,15 +66,8 @@ fn byte(plus: u64, minus: u64, over: u32) -> u8
         return 0;
     }
     let up = 2 * plus + over as u64;
-    let down = 2 * minus;
-    if up < down {
-        return 0;
-    }
-    let whole = (up - down) / (2 * over as u64);
-    if whole < 255 {
-        return whole as u8;
-    }
-    255
+    let whole = up.saturating_sub(2 * minus) / (2 * over as u64);
+    whole.min(255) as u8
 }
 
 // The same of numbers of 32 bits, whatever they are.
@@ -107,6 +97,7 @@ fn green(over: u32, cb: u32, cr: u32, p: Pixel) -> u8
 }
 
 // Cb, Y, Cr in; R, G, B out.
+#[tactic(auto, unfolding(crate::specs::Factors::rgb_by))]
 pub fn rgb(f: Factors, p: Pixel) -> Pixel
     ensures { result ≡ rgb_by f p }
 {

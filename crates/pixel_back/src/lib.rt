@@ -23,6 +23,7 @@ fn chroma(n: u32, factor: u32, l: u32, colour: u8) -> u8
 }
 
 // R, G, B in; Cb, Y, Cr out.
+#[tactic(auto, unfolding(luma::specs::Ycbcr::ycbcr_of))]
 pub fn ycbcr(w: Weights, p: Pixel) -> Pixel
     ensures { result ≡ ycbcr_of w p }
 {

@@ -1,4 +1,4 @@
--- The contract determines its function's answer.
+-- The contract of `same_lengths` determines its answer; what `each_place` leaves is as determined as what it calls.
 -- Two answers that equal one meaning are equal.
 use mathlib.Core.Path.{sym, ◌∙◌}
 use Rattle.notation.proofs.Determines.{Determines}

@@ -2,5 +2,5 @@
 pub mod Exactly
 pub mod Places
 pub mod Determined
--- the loop that converts each pixel
-pub mod Converting
+-- a loop that writes a pixel at each place
+pub mod Placing

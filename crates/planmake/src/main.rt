@@ -5,15 +5,7 @@ use std::io;
 
 // How long the word at the front is: 0 where the text or the line ends there, and at most 40.
 fn word_length(text: &[u8]) -> usize {
-    let most = saying::least(text.len(), 40);
-    let mut i: usize = 0;
-    while i < most {
-        if text[i] <= b' ' {
-            return i;
-        }
-        i += 1;
-    }
-    i
+    text.iter().take(40).take_while(|c| **c > b' ').count()
 }
 
 // Names the word that begins at a place, or says that one is missing there.
@@ -41,8 +33,8 @@ fn name_word(rt: &HostRuntime, text: &[u8], place: usize) -> io::Result<()> {
 // No block is longer than 1,192 bytes.
 fn make(rt: &HostRuntime, text: &[u8]) -> io::Result<()> {
     let filling = wording::filled(text);
-    if filling.fault {
-        return name_fault(rt, text, filling.place);
+    if let Some(place) = filling.fault {
+        return name_fault(rt, text, place);
     }
     let mut block = [0u8; 1_192];
     let mut told = [0u64; 4];
@@ -66,6 +58,7 @@ fn make(rt: &HostRuntime, text: &[u8]) -> io::Result<()> {
 }
 
 fn main(rt: HostRuntime) -> io::Result<()> {
+    // No Vec, as `pictures` says.
     let mut text = [0u8; 65_537];
     let n = saying::read_full(&rt, &mut text)?;
     if 65_536 < n {

@@ -1,5 +1,6 @@
 -- Planning answers by the first cause in 01's order that holds, and by no other.
 -- By the four tests of two enum encodings, each of which holds exactly where its words do.
+use Rattle.std.specs.Prelude.{Ok, Err}
 use Prim.Native.Nat.{ℕ, zero, suc}
 use mathlib.Core.Path.{◌≡◌, refl, ap, sym, subst, ◌∙◌}
 use mathlib.Core.Bool.{Bool, true, false}
@@ -29,26 +30,26 @@ use Rattle.encoding.proofs.OutOfRange.{outside-exactly}
 use Rattle.notation.proofs.Tests.{fails_exactly, negated, both-exactly, either-exactly}
 use Rattle.planner.specs.Planning.{paper, refusal, done, out_of_range, has_unknown, retired, unsupported, planned, planned_of}
 use Rattle.planner.specs.Refusals.{IsIcc, Unlabelled, Lacks, Cause, Given}
-use Rattle.planner.specs.declared.Planning.{Planning}
+use Rattle.planner.specs.Planning.{Planning}
 use Rattle.planner.specs.declared.Planned.{Planned}
-use Rattle.planner.specs.declared.Planning.TheVariants.{Done, Icc, OutOfRange, Retired, Unsupported}
+use Rattle.planner.specs.declared.PlanError.TheVariants.{Icc, OutOfRange, Retired, Unsupported}
 
 numbered : (p q : Planning) → paper p ≡ paper q → p ≡ q
 numbered p q e = sym (back p) ∙ ap (λ (a : Answer). by a.number) e ∙ back q
   where
     by : ℕ → Planning
-    by zero = Done
-    by (suc zero) = Icc
-    by (suc (suc zero)) = OutOfRange
-    by (suc (suc (suc zero))) = Unsupported
-    by (suc (suc (suc (suc n)))) = Retired
+    by zero = Ok tt
+    by (suc zero) = Err Icc
+    by (suc (suc zero)) = Err OutOfRange
+    by (suc (suc (suc zero))) = Err Unsupported
+    by (suc (suc (suc (suc n)))) = Err Retired
 
     back : (p : Planning) → by (paper p).number ≡ p
-    back Done = refl
-    back Icc = refl
-    back OutOfRange = refl
-    back Retired = refl
-    back Unsupported = refl
+    back (Ok tt) = refl
+    back (Err Icc) = refl
+    back (Err OutOfRange) = refl
+    back (Err Retired) = refl
+    back (Err Unsupported) = refl
 
 -- the tests of two enum encodings, in words
 module _ (s t : EnumColourEncoding) where
@@ -79,10 +80,10 @@ module _ (s t : EnumColourEncoding) where
 -- the five answers to two enum encodings, and when each is given
 module _ (s t : EnumColourEncoding) (settings : Settings) where
   pub data Sorted : Planned → Type 0 where
-    outside : Outside s ⊎ Outside t → Sorted (refusal OutOfRange)
-    unlabelled : ¬ (Outside s ⊎ Outside t) → Unlabelled s ⊎ Unlabelled t → Sorted (refusal Retired)
+    outside : Outside s ⊎ Outside t → Sorted (refusal (Err OutOfRange))
+    unlabelled : ¬ (Outside s ⊎ Outside t) → Unlabelled s ⊎ Unlabelled t → Sorted (refusal (Err Retired))
     same : Labelled s t → Equivalent s t → Sorted (done (channels_of s) [])
-    lacking : Labelled s t → ¬ Equivalent s t → Lacks s t → Sorted (refusal Unsupported)
+    lacking : Labelled s t → ¬ Equivalent s t → Lacks s t → Sorted (refusal (Err Unsupported))
     made : Labelled s t → ¬ Equivalent s t → ¬ Lacks s t → Sorted (done (channels_of s) (merge_ops (stage_ops s t settings)))
 
   pub sorted : Sorted (planned s t settings)
@@ -111,10 +112,10 @@ told_of-enums s t settings (outside o) = refused (later (not-icc s t) (this o))
 told_of-enums s t settings (unlabelled i u) = refused (later (not-icc s t) (later i (this u)))
 told_of-enums s t settings (lacking i d l) = refused (later (not-icc s t) (later i.0 (later i.1 (this (d, l)))))
 told_of-enums s t settings (same i e) =
-    let n : ¬ Cause (E.Enum s) (E.Enum t) Unsupported = λ h. h.0 e in
+    let n : ¬ Cause (E.Enum s) (E.Enum t) (Err Unsupported) = λ h. h.0 e in
     record { given = later (not-icc s t) (later i.0 (later i.1 (later n none))); empty = λ n. absurd (n refl); start = channels_of s; ops = []; merged = refl }
 told_of-enums s t settings (made i d l) =
-    let n : ¬ Cause (E.Enum s) (E.Enum t) Unsupported = λ h. l h.1 in
+    let n : ¬ Cause (E.Enum s) (E.Enum t) (Err Unsupported) = λ h. l h.1 in
     record { given = later (not-icc s t) (later i.0 (later i.1 (later n none))); empty = λ n. absurd (n refl); start = channels_of s; ops = stage_ops s t settings; merged = refl }
 
 pub told : (source target : ColourEncoding) (settings : Settings) → Told source target (planned_of source target settings)

@@ -1,5 +1,5 @@
 -- What planning answers. "Order: planning 1, 2, equivalence, 3." (01, Refusal numbers). "15 in planning, after 2 and before equivalence". (02, W10)
-use Rattle.std.specs.Prelude.{ℕ, Bool, not, ◌&&◌, ◌||◌, List, []}
+use Rattle.std.specs.Prelude.{ℕ, Bool, not, ◌&&◌, ◌||◌, List, [], Ok, Err, Result}
 use Rattle.notation.specs.Choice.{when◌then◌else◌}
 use Rattle.notation.specs.Answers.{answer}
 use Rattle.notation.specs.declared.Answer.{Answer}
@@ -17,24 +17,28 @@ use Rattle.encoding.specs.declared.ColourEncoding.{ColourEncoding}
 use Rattle.encoding.specs.declared.ColourEncoding.TheVariants as E
 use Rattle.encoding.specs.declared.Settings.{Settings}
 use Rattle.stages.specs.Stages.{stage_ops}
-use Rattle.planner.specs.declared.Planning.{Planning}
-use Rattle.planner.specs.declared.Planning.TheVariants.{Done, Icc, OutOfRange, Retired, Unsupported}
+use Rattle.planner.specs.declared.PlanError.{PlanError}
+use Rattle.planner.specs.declared.PlanError.TheVariants.{Icc, OutOfRange, Retired, Unsupported}
 use Rattle.planner.specs.declared.Planned.{Planned}
+
+-- what planning answers
+abbrev pub Planning : Type 0
+Planning = Result (Unit {0}) PlanError
 
 -- 01's answer; planning names no position and no width
 abbrev pub paper : Planning → Answer
-paper Done = answer 0 0 0
-paper Icc = answer 1 0 0
-paper OutOfRange = answer 2 0 0
-paper Retired = answer 15 0 0
-paper Unsupported = answer 3 0 0
+paper (Ok tt) = answer 0 0 0
+paper (Err Icc) = answer 1 0 0
+paper (Err OutOfRange) = answer 2 0 0
+paper (Err Retired) = answer 15 0 0
+paper (Err Unsupported) = answer 3 0 0
 
 -- a refusal's result is "empty list, width 0"
 abbrev pub refusal : Planning → Planned
 refusal answer = record { answer = answer; plan = no_list }
 
 abbrev pub done : ℕ → List Op → Planned
-done start ops = record { answer = Done; plan = plan_of start ops }
+done start ops = record { answer = (Ok tt); plan = plan_of start ops }
 
 -- 2: "a coordinate or `g` outside its range, on either side"
 abbrev pub out_of_range : EnumColourEncoding → EnumColourEncoding → Bool
@@ -56,13 +60,13 @@ unsupported source target =
 -- "Equivalent sides give an empty list, start width 1 for a Grey source, else 3. [..] A plan is merged last."
 abbrev pub planned : EnumColourEncoding → EnumColourEncoding → Settings → Planned
 planned source target settings =
-    when out_of_range source target then refusal OutOfRange
-    else when retired source target then refusal Retired
+    when out_of_range source target then refusal (Err OutOfRange)
+    else when retired source target then refusal (Err Retired)
     else when equivalent source target then done (channels_of source) []
-    else when unsupported source target then refusal Unsupported
+    else when unsupported source target then refusal (Err Unsupported)
     else done (channels_of source) (merge_ops (stage_ops source target settings))
 
 abbrev pub planned_of : ColourEncoding → ColourEncoding → Settings → Planned
-planned_of E.IccProfile target settings = refusal Icc
-planned_of (E.Enum source) E.IccProfile settings = refusal Icc
+planned_of E.IccProfile target settings = refusal (Err Icc)
+planned_of (E.Enum source) E.IccProfile settings = refusal (Err Icc)
 planned_of (E.Enum source) (E.Enum target) settings = planned source target settings

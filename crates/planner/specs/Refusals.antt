@@ -1,5 +1,5 @@
 -- What 01's table and W10 say of planning, in words and apart from the tests. (01, Refusal numbers; 02, W10)
-use Rattle.std.specs.Prelude.{◌≡◌, List, [], ◌∷◌, ◌⊎◌}
+use Rattle.std.specs.Prelude.{◌≡◌, List, [], ◌∷◌, ◌⊎◌, Ok, Err}
 use Rattle.notation.specs.Order.{FirstOf}
 use Rattle.op.specs.declared.Curve.TheVariants as C
 use Rattle.encoding.specs.Equivalence.{Equivalent}
@@ -8,8 +8,8 @@ use Rattle.encoding.specs.declared.ColourSpace.TheVariants as S
 use Rattle.encoding.specs.declared.EnumColourEncoding.{EnumColourEncoding}
 use Rattle.encoding.specs.declared.ColourEncoding.{ColourEncoding}
 use Rattle.encoding.specs.declared.ColourEncoding.TheVariants as E
-use Rattle.planner.specs.declared.Planning.{Planning}
-use Rattle.planner.specs.declared.Planning.TheVariants.{Done, Icc, OutOfRange, Retired, Unsupported}
+use Rattle.planner.specs.Planning.{Planning}
+use Rattle.planner.specs.declared.PlanError.TheVariants.{Icc, OutOfRange, Retired, Unsupported}
 
 -- 1: "either side is ICC"
 abbrev pub IsIcc : ColourEncoding → ColourEncoding → Type 0
@@ -46,14 +46,14 @@ IsUnsupported (E.Enum s) (E.Enum t) = (¬ Equivalent s t) × Lacks s t
 -- "Order: planning 1, 2, equivalence, 3", and 15 "after 2 and before equivalence": what each answer is given for, and their order; 0 where none of
 -- these is given
 abbrev pub Cause : ColourEncoding → ColourEncoding → Planning → Type 0
-Cause source target Icc = IsIcc source target
-Cause source target OutOfRange = IsOutside source target
-Cause source target Retired = IsRetired source target
-Cause source target Unsupported = IsUnsupported source target
-Cause source target Done = Unit {0}
+Cause source target (Err Icc) = IsIcc source target
+Cause source target (Err OutOfRange) = IsOutside source target
+Cause source target (Err Retired) = IsRetired source target
+Cause source target (Err Unsupported) = IsUnsupported source target
+Cause source target (Ok tt) = Unit {0}
 
 abbrev pub order : List Planning
-order = Icc ∷ OutOfRange ∷ Retired ∷ Unsupported ∷ []
+order = (Err Icc) ∷ (Err OutOfRange) ∷ (Err Retired) ∷ (Err Unsupported) ∷ []
 
 abbrev pub Given : ColourEncoding → ColourEncoding → Planning → Type 0
-Given source target answer = FirstOf (Cause source target) Done order answer
+Given source target answer = FirstOf (Cause source target) (Ok tt) order answer

@@ -1,7 +1,7 @@
 // Planning: from two encodings and the settings to a list, or a refusal.
 #![tactic(auto)]
 
-ghost use Rattle.std.specs.Prelude.{◌≡◌};
+ghost use Rattle.std.specs.Prelude.{◌≡◌, Err};
 ghost use Rattle.list.specs.Lists.{plan_of};
 ghost use Rattle.encoding.specs.Encodings.{channels_of};
 ghost use Rattle.stages.specs.Stages.{stage_ops};
@@ -11,9 +11,9 @@ use encoding::{ColourEncoding, ColourSpace, EnumColourEncoding, Settings};
 use list::Plan;
 use notation::Answer;
 
-#[derive(Clone, Copy)]
-pub enum Planning {
-    Done,
+// For what no plan is made.
+#[derive(Clone, Copy, Debug, PartialEq, Eq)]
+pub enum PlanError {
     // Refusal 1: either side is ICC.
     Icc,
     // Refusal 2: a coordinate or `g` is outside its range.
@@ -24,10 +24,10 @@ pub enum Planning {
     Unsupported,
 }
 
-// A refused plan is the empty list with width 0.
-#[derive(Clone, Copy)]
+// A refused plan is the empty list with width 0: the answer and the list stand side by side, since 01 says what both are.
+#[derive(Clone, Copy, Debug)]
 pub struct Planned {
-    pub answer: Planning,
+    pub answer: Result<(), PlanError>,
     pub plan: Plan,
 }
 
@@ -48,94 +48,81 @@ fn unmerged(source: EnumColourEncoding, target: EnumColourEncoding, settings: Se
 fn is_out_of_range(source: EnumColourEncoding, target: EnumColourEncoding) -> bool
     ensures { result ≡ out_of_range source target }
 {
-    !encoding::in_range(source) | !encoding::in_range(target)
+    !encoding::in_range(source) || !encoding::in_range(target)
 }
 
 // Only in an Xyb encoding is the curve not looked at.
 fn has_unknown(side: EnumColourEncoding) -> bool
     ensures { result ≡ has_unknown side }
 {
-    let space = side.colour_space;
-    let curve = side.tf;
-    !encoding::same_colour_space(space, ColourSpace::Xyb) & op::is_unknown(curve)
+    side.colour_space != ColourSpace::Xyb && op::is_unknown(side.tf)
 }
 
 fn is_retired(source: EnumColourEncoding, target: EnumColourEncoding) -> bool
     ensures { result ≡ retired source target }
 {
-    has_unknown(source) | has_unknown(target)
+    has_unknown(source) || has_unknown(target)
 }
 
 fn is_unsupported(source: EnumColourEncoding, target: EnumColourEncoding) -> bool
     ensures { result ≡ unsupported source target }
 {
-    let from = source.colour_space;
-    let to = target.colour_space;
-    encoding::same_colour_space(from, ColourSpace::Unknown)
-        | (encoding::same_colour_space(to, ColourSpace::Xyb)
-            | encoding::same_colour_space(to, ColourSpace::Unknown))
+    source.colour_space == ColourSpace::Unknown
+        || matches!(target.colour_space, ColourSpace::Xyb | ColourSpace::Unknown)
 }
 
-fn refused(answer: Planning) -> Planned
-    ensures { result ≡ refusal answer }
+// No plan, and why.
+pub fn refused(e: PlanError) -> Planned
+    ensures { result ≡ refusal (Err e) }
 {
-    let plan = list::empty(0);
-    Planned { answer, plan }
+    Planned {
+        answer: Err(e),
+        plan: list::empty(0),
+    }
 }
 
 fn plan_enum(source: EnumColourEncoding, target: EnumColourEncoding, settings: Settings) -> Planned
     ensures { result ≡ planned source target settings }
 {
     if is_out_of_range(source, target) {
-        return refused(Planning::OutOfRange);
+        return refused(PlanError::OutOfRange);
     }
     if is_retired(source, target) {
-        return refused(Planning::Retired);
+        return refused(PlanError::Retired);
     }
     if encoding::is_equivalent(source, target) {
-        let plan = list::empty(encoding::channels(source));
         return Planned {
-            answer: Planning::Done,
-            plan,
+            answer: Ok(()),
+            plan: list::empty(encoding::channels(source)),
         };
     }
     if is_unsupported(source, target) {
-        return refused(Planning::Unsupported);
+        return refused(PlanError::Unsupported);
     }
-    let merged = merge::merge(unmerged(source, target, settings));
-    let plan = merged.plan;
     Planned {
-        answer: Planning::Done,
-        plan,
+        answer: Ok(()),
+        plan: merge::merge(unmerged(source, target, settings)).plan,
     }
 }
 
 pub fn plan(source: ColourEncoding, target: ColourEncoding, settings: Settings) -> Planned
     ensures { result ≡ planned_of source target settings }
 {
-    match source {
-        ColourEncoding::IccProfile => refused(Planning::Icc),
-        ColourEncoding::Enum(from) => match target {
-            ColourEncoding::IccProfile => refused(Planning::Icc),
-            ColourEncoding::Enum(to) => plan_enum(from, to, settings),
-        },
+    match (source, target) {
+        (ColourEncoding::Enum(from), ColourEncoding::Enum(to)) => plan_enum(from, to, settings),
+        _ => refused(PlanError::Icc),
     }
 }
 
 // The paper's answer.
-pub fn paper(planning: Planning) -> Answer
+pub fn paper(planning: Result<(), PlanError>) -> Answer
     ensures { result ≡ paper planning }
 {
-    let number = match planning {
-        Planning::Done => 0,
-        Planning::Icc => 1,
-        Planning::OutOfRange => 2,
-        Planning::Retired => 15,
-        Planning::Unsupported => 3,
-    };
-    Answer {
-        number,
-        position: 0,
-        width: 0,
+    match planning {
+        Ok(()) => Answer::done(0),
+        Err(PlanError::Icc) => Answer::refused(1),
+        Err(PlanError::OutOfRange) => Answer::refused(2),
+        Err(PlanError::Retired) => Answer::refused(15),
+        Err(PlanError::Unsupported) => Answer::refused(3),
     }
 }

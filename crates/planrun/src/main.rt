@@ -3,12 +3,13 @@
 
 mod picture;
 
-ghost use Rattle.std.specs.Prelude.{◌≡◌, ◌+◌, ◌≤◌, ◌<◌, IfOk, length};
+ghost use Rattle.std.specs.Prelude.{◌<◌, IfOk, IfSome};
 
 use list::Plan;
 use pfm::Numbers;
+use picture::Run;
+use pictures::Ahead;
 use std::io;
-use strips::State;
 
 fn channels_refused(rt: &HostRuntime, start: u8) -> io::Result<()> {
     if start == 3 {
@@ -25,167 +26,104 @@ fn channels_refused(rt: &HostRuntime, start: u8) -> io::Result<()> {
     )
 }
 
-// How far the picture is: the run, how many bytes the input holds at its front, how many pixels are left, and that nothing was refused.
+// How far the picture is: the run, and how many pixels are left.
 #[derive(Clone, Copy)]
 struct Progress {
-    state: State,
-    held: usize,
+    run: Run,
     left: u64,
-    fine: bool,
 }
 
-fn refused(rt: &HostRuntime, p: Progress, words: &str) -> io::Result<Progress>
-    ensures { IfOk result (λ q. q.left ≡ 0) }
+// The next strip, where nothing is refused.
+fn next(rt: &HostRuntime, p: Progress, input: &mut Ahead) -> io::Result<Option<Progress>>
+    requires { 0 < p.left }
+    ensures { IfOk result (λ o. IfSome o (λ q. q.left < p.left)) }
 {
-    saying::refuse(rt, "planrun", words)?;
-    let state = p.state;
-    Ok(Progress {
-        state,
-        held: 0,
-        left: 0,
-        fine: false,
-    })
-}
-
-// The next strip.
-fn next(
-    rt: &HostRuntime,
-    p: Progress,
-    end: u8,
-    numbers: Numbers,
-    input: &mut [u8],
-) -> io::Result<Progress>
-    requires { (0 < p.left) × (786432 ≤ length input.old) }
-    ensures { IfOk result (λ q. q.left < p.left) }
-{
+    let numbers = p.run.numbers;
     let n = pictures::strip_of(numbers.width, p.left);
-    let want = pictures::bytes_of(numbers.channels, n);
-    let held = pictures::filled(rt, input, p.held, want)?;
-    if held < want {
-        return refused(rt, p, "the picture ends early");
-    }
-    let state = p.state;
-    let stripped = picture::strip(rt, state, end, numbers, n, &input[..want]);
-    if !stripped.written {
-        return refused(rt, p, "the picture cannot be written");
-    }
-    let state = stripped.state;
+    let size = pictures::bytes_of(numbers.channels, n);
+    input.fill(rt, size)?;
+    let Some(bytes) = input.held().get(..size) else {
+        return saying::refused(rt, "planrun", "the picture ends early");
+    };
+    let Ok(run) = picture::strip(rt, p.run, n, bytes) else {
+        return saying::refused(rt, "planrun", "the picture cannot be written");
+    };
+    input.use_up(size);
     let left = p.left - n as u64;
-    Ok(Progress {
-        state,
-        held: held - want,
-        left,
-        fine: true,
-    })
+    Ok(Some(Progress { run, left }))
 }
 
-// Strip by strip; the input holds so many bytes of the picture at its front.
-fn run(
-    rt: &HostRuntime,
-    state: State,
-    end: u8,
-    numbers: Numbers,
-    input: &mut [u8],
-    held: usize,
-) -> io::Result<()>
-    requires { 786432 ≤ length input.old }
-{
-    let all = pictures::pixels_of(numbers.width, numbers.height);
-    let mut p = Progress {
-        state,
-        held,
-        left: all,
-        fine: true,
-    };
+// Strip by strip.
+fn run_strips(rt: &HostRuntime, run: Run, input: &mut Ahead) -> io::Result<()> {
+    let all = pictures::pixels_of(run.numbers.width, run.numbers.height);
+    let mut p = Progress { run, left: all };
     while 0 < p.left {
-        p = next(rt, p, end, numbers, input)?;
+        let Some(further) = next(rt, p, input)? else {
+            return Ok(());
+        };
+        p = further;
         picture::show_progress(rt, p.left, all)?;
     }
-    finish(rt, p)
+    finish(rt, p.run, input)
 }
 
-fn finish(rt: &HostRuntime, p: Progress) -> io::Result<()> {
-    if !p.fine {
-        return Ok(());
-    }
-    if !pictures::at_end(rt, p.held)? {
+fn finish(rt: &HostRuntime, run: Run, input: &Ahead) -> io::Result<()> {
+    if !input.is_at_end(rt)? {
         return saying::refuse(rt, "planrun", "bytes stand behind the picture");
     }
-    let state = p.state;
-    picture::report(rt, state)
+    picture::report(rt, run.state)
 }
 
 // Behind the header.
-fn run_behind(
-    rt: &HostRuntime,
-    state: State,
-    end: u8,
-    numbers: Numbers,
-    input: &mut [u8],
-    held: usize,
-) -> io::Result<()>
-    requires { 786432 + held ≤ length input.old }
-{
-    if picture::put_header(rt, end, input, numbers.used).is_err() {
+fn run_behind(rt: &HostRuntime, run: Run, input: &mut Ahead) -> io::Result<()> {
+    let used = run.numbers.used;
+    if picture::put_header(rt, run.end, input.held(), used).is_err() {
         return saying::refuse(rt, "planrun", "the picture cannot be written");
     }
-    let from = saying::least(numbers.used, held);
-    run(rt, state, end, numbers, &mut input[from..], held - from)
+    input.pass(used);
+    run_strips(rt, run, input)
 }
 
 // The plan on a picture that it can be run on.
-fn run_plan(
-    rt: &HostRuntime,
-    plan: Plan,
-    numbers: Numbers,
-    input: &mut [u8],
-    held: usize,
-) -> io::Result<()>
-    requires { 786432 + held ≤ length input.old }
-{
+fn run_plan(rt: &HostRuntime, plan: Plan, numbers: Numbers, input: &mut Ahead) -> io::Result<()> {
     if plan.start != numbers.channels {
         return channels_refused(rt, plan.start);
     }
     let opened = strips::open(strips::closed(), plan);
-    let judgement = opened.answer;
-    let judged = judge::paper(judgement);
-    if judged.number != 0 {
+    let Ok(end) = opened.answer else {
+        let judged = judge::paper(opened.answer);
         return saying::refuse_by(rt, "planrun", judged.number as u64, judged.position as u64);
-    }
-    let state = opened.state;
-    run_behind(rt, state, judged.width, numbers, input, held)
+    };
+    let run = Run {
+        state: opened.state,
+        end,
+        numbers,
+    };
+    run_behind(rt, run, input)
 }
 
-// The plan on the picture whose header is at the front of the input, which holds so many bytes.
-fn run_picture(rt: &HostRuntime, plan: Plan, input: &mut [u8], held: usize) -> io::Result<()>
-    requires { 786432 + held ≤ length input.old }
-{
-    let header = pfm::read(&input[..held]);
-    let stage = header.stage;
-    if !pictures::is_done(stage) {
-        return pictures::header_refused(rt, "planrun", stage);
+// The plan on the picture whose header is at the front of the input.
+fn run_picture(rt: &HostRuntime, plan: Plan, input: &mut Ahead) -> io::Result<()> {
+    let header = pfm::read(input.held());
+    if !pictures::is_done(header.stage) {
+        return pictures::header_refused(rt, "planrun", header.stage);
     }
-    let numbers = header.numbers;
-    run_plan(rt, plan, numbers, input, held)
+    run_plan(rt, plan, header.numbers, input)
 }
 
-// The block at the front of the input, which holds so many bytes, and the picture behind it.
-fn run_block(rt: &HostRuntime, input: &mut [u8], held: usize) -> io::Result<()>
-    requires { 786432 + held ≤ length input.old }
-{
-    let block = block::read(&input[..held]);
-    let reading = block.answer;
-    let read = block::paper(reading);
-    if read.number != 0 {
+// The block at the front of the input, and the picture behind it.
+fn run_block(rt: &HostRuntime, input: &mut Ahead) -> io::Result<()> {
+    let block = block::read(input.held());
+    if block.answer.is_err() {
+        let read = block::paper(block.answer);
         return saying::refuse_by(rt, "planrun", read.number as u64, 0);
     }
-    let plan = block.plan;
-    let used = saying::least(block.used, held);
-    run_picture(rt, plan, &mut input[used..], held - used)
+    input.pass(block.used);
+    run_picture(rt, block.plan, input)
 }
 
 fn main(rt: HostRuntime) -> io::Result<()> {
-    let mut input = pictures::room();
-    let held = pictures::filled(&rt, &mut input, 0, 4_096)?;
-    run_block(&rt, &mut input, held)
+    let mut input = Ahead::new();
+    input.fill(&rt, 4_096)?;
+    run_block(&rt, &mut input)
 }

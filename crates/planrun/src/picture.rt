@@ -1,68 +1,67 @@
 // A strip of a picture: bytes in, samples, the list run on them, bytes out.
+// Three slices, as `channels` says; `n` stays a number, as `pictures` says.
 ghost use Rattle.std.specs.Prelude.{◌≤◌};
 
-use pfm::Numbers;
+use pfm::{Numbers, Unfit};
 use std::io;
 use std::io::IsTerminal;
 use strips::State;
 
-// The run after a strip, and whether the strip was written.
-#[derive(Clone, Copy)]
-pub(crate) struct Stripped {
-    pub(crate) state: State,
-    pub(crate) written: bool,
-}
-
-fn put(end: u8, little: bool, a: &[f32], b: &[f32], c: &[f32], out: &mut [u8]) -> bool {
+fn put(
+    end: u8,
+    little: bool,
+    a: &[f32],
+    b: &[f32],
+    c: &[f32],
+    out: &mut [u8],
+) -> Result<(), Unfit> {
     if end == 3 {
         return pfm::three_to(a, b, c, little, out);
     }
     pfm::one_to(a, little, out)
 }
 
-// The samples of these bytes, the list run on them, and their bytes to standard output by way of the room for them.
+// A run that is open, the width that it ends at, and what the picture's header says.
+#[derive(Clone, Copy)]
+pub(crate) struct Run {
+    pub(crate) state: State,
+    pub(crate) end: u8,
+    pub(crate) numbers: Numbers,
+}
+
+// The samples of these bytes, the list run on them, and their bytes to standard output by way of the room for them; the run after them.
+// The lengths fit: each is that of the strip's pixels.
 fn on_samples(
     rt: &HostRuntime,
-    state: State,
-    end: u8,
-    numbers: Numbers,
+    run: Run,
     bytes: &[u8],
     a: &mut [f32],
     b: &mut [f32],
     c: &mut [f32],
     out: &mut [u8],
-) -> Stripped {
-    pfm::channels_from(numbers.channels, bytes, numbers.little, a, b, c);
-    let next = strips::strip(state, a, b, c).state;
-    put(end, numbers.little, a, b, c, out);
-    let written = rt.write_all(out).is_ok();
-    Stripped {
-        state: next,
-        written,
-    }
+) -> io::Result<Run> {
+    let numbers = run.numbers;
+    let _ = pfm::channels_from(numbers.channels, bytes, numbers.little, a, b, c);
+    let state = strips::strip(run.state, a, b, c).state;
+    let _ = put(run.end, numbers.little, a, b, c, out);
+    rt.write_all(out)?;
+    let mut next = run;
+    next.state = state;
+    Ok(next)
 }
 
 // So many pixels.
-pub(crate) fn strip(
-    rt: &HostRuntime,
-    state: State,
-    end: u8,
-    numbers: Numbers,
-    n: usize,
-    bytes: &[u8],
-) -> Stripped
+pub(crate) fn strip(rt: &HostRuntime, run: Run, n: usize, bytes: &[u8]) -> io::Result<Run>
     requires { n ≤ 65536 }
 {
     let mut a = pictures::samples();
     let mut b = pictures::samples();
     let mut c = pictures::samples();
     let mut out = pictures::strip_bytes();
-    let size = pictures::bytes_of(end, n);
+    let size = pictures::bytes_of(run.end, n);
     on_samples(
         rt,
-        state,
-        end,
-        numbers,
+        run,
         bytes,
         &mut a[..n],
         &mut b[..n],
@@ -93,8 +92,7 @@ pub(crate) fn show_progress(rt: &HostRuntime, left: u64, all: u64) -> io::Result
 // The width that the run ended at, and how many samples went bad.
 pub(crate) fn report(rt: &HostRuntime, state: State) -> io::Result<()> {
     let closed = strips::close(state);
-    let answer = closed.answer;
-    let width = strips::paper(answer).width;
+    let width = closed.answer.unwrap_or(0);
     let bad = closed.bad;
     eprintln!(rt; "planrun: width {width}, bad samples {bad}")
 }

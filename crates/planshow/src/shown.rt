@@ -1,4 +1,5 @@
 // A strip of a picture: bytes in, samples, their screen bytes, pixels out.
+// Three slices, as `channels` says; `n` stays a number, as `pictures` says.
 ghost use Rattle.std.specs.Prelude.{◌≤◌};
 
 use pfm::Numbers;
@@ -6,7 +7,8 @@ use std::fs::File;
 use std::io;
 use std::io::Write;
 
-// The screen bytes of three channels, and the pixels of these into a file, by way of the rooms for them.
+// The screen bytes of three channels, and the pixels of these into a file, by way of the rooms for them. The lengths fit, here and below:
+// each is that of the strip's pixels.
 fn put_pixels(
     a: &[f32],
     b: &[f32],
@@ -17,10 +19,10 @@ fn put_pixels(
     out: &mut [u8],
     file: &mut File,
 ) -> io::Result<()> {
-    screen::screen_bytes(a, red);
-    screen::screen_bytes(b, green);
-    screen::screen_bytes(c, blue);
-    pfm::pixels_to(red, green, blue, out);
+    let _ = screen::screen_bytes(a, red);
+    let _ = screen::screen_bytes(b, green);
+    let _ = screen::screen_bytes(c, blue);
+    let _ = pfm::pixels_to(red, green, blue, out);
     file.write_all(out)
 }
 
@@ -55,7 +57,7 @@ fn put_samples(
 ) -> io::Result<()>
     requires { n ≤ 65536 }
 {
-    pfm::channels_from(numbers.channels, bytes, numbers.little, a, b, c);
+    let _ = pfm::channels_from(numbers.channels, bytes, numbers.little, a, b, c);
     if numbers.channels == 3 {
         return put_screen(n, a, b, c, file);
     }

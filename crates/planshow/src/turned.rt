@@ -1,4 +1,5 @@
 // The lines of a file from the last to the first: a float map's first line is the lowest, a pixmap's the highest.
+// A place stays a number, and each function asks that the file can have it: a type for it would be opened at each call.
 ghost use Rattle.std.specs.Prelude.{◌+◌, ◌≤◌, ◌<◌};
 
 use std::fs::File;
@@ -24,46 +25,24 @@ fn put_piece(rt: &HostRuntime, file: &File, at: u64, n: usize) -> io::Result<()>
     copied(rt, file, at, &mut piece[..n])
 }
 
-fn piece_of(left: u64) -> usize
-    requires { 0 < left }
-    ensures { (0 < result) × (result ≤ left) × (result ≤ 65536) }
-{
-    if left < 65_536 {
-        return left as usize;
-    }
-    65_536
-}
-
 // So many bytes of a file from a place on, piece by piece.
 fn put_part(rt: &HostRuntime, file: &File, from: u64, count: u64) -> io::Result<()>
     requires { from + count ≤ 9223372036854775807 }
 {
-    let mut at = from;
-    let mut left = count;
-    while 0 < left {
-        let n = piece_of(left);
-        put_piece(rt, file, at, n)?;
-        at += n as u64;
-        left -= n as u64;
+    let end = from + count;
+    for at in (from..end).step_by(65_536) {
+        put_piece(rt, file, at, (end - at).min(65_536) as usize)?;
     }
     Ok(())
 }
 
 pub(crate) fn put_lines(rt: &HostRuntime, width: u32, height: u32, file: &File) -> io::Result<()> {
-    let all = pictures::pixels_of(width, height);
-    if MOST < all {
+    if MOST < pictures::pixels_of(width, height) {
         return Err(io::Error::from(ErrorKind::FileTooLarge));
     }
     let line = 3 * (width as u64);
-    let mut at = 3 * all;
-    let mut left = height;
-    while 0 < left {
-        if at < line {
-            return Err(io::Error::from(ErrorKind::UnexpectedEof));
-        }
-        at -= line;
-        left -= 1;
-        put_part(rt, file, at, line)?;
+    for row in (0..height).rev() {
+        put_part(rt, file, row as u64 * line, line)?;
     }
     Ok(())
 }

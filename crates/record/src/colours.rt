@@ -1,4 +1,5 @@
 // Vectors, matrices, white points, primaries and curves, each from the first words of a part of a record.
+// Apart from `numbers`, which has the like: a test does not share what it tests.
 use crate::{float, from_word, signed_of, word};
 use ciexyz::{Mat3, Millionths, Primaries, Vec3, WhitePoint, Xy};
 use op::Curve;
@@ -44,19 +45,17 @@ pub fn white_of(words: &[u8]) -> WhitePoint {
     }
 }
 
-// How many words a value takes that is 0, 1, 2, or 3 and coordinates; 0 where the number is another.
-fn words_by(number: u32, custom: usize) -> usize {
-    if number < 3 {
-        return 1;
+// How many words a value takes that is 0, 1, 2, or 3 and coordinates.
+fn words_by(number: u32, custom: usize) -> Option<usize> {
+    match number {
+        0..=2 => Some(1),
+        3 => Some(custom),
+        _ => None,
     }
-    if number == 3 {
-        return custom;
-    }
-    0
 }
 
-// How many words a white point takes; 0 where the number is no white point's.
-pub fn white_words(words: &[u8]) -> usize {
+// How many words a white point takes, where the number is one's.
+pub fn white_words(words: &[u8]) -> Option<usize> {
     words_by(word(words, 0), 3)
 }
 
@@ -74,7 +73,7 @@ pub fn primaries_of(words: &[u8]) -> Primaries {
     }
 }
 
-pub fn primaries_words(words: &[u8]) -> usize {
+pub fn primaries_words(words: &[u8]) -> Option<usize> {
     words_by(word(words, 0), 7)
 }
 

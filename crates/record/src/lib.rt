@@ -15,7 +15,7 @@ pub use colours::{
 pub use ops::{Found, list_at};
 pub use samples::{read_channels, read_samples, same_channels, same_samples};
 
-// What a digit counts, `0` to `9` and `a` to `f`.
+// What a digit counts, `0` to `9` and `a` to `f`. By hand, here and below: a record is in lower case, and the library's reading takes more.
 fn digit(b: u8) -> u32
     ensures { result < 16 }
 {
@@ -30,18 +30,11 @@ fn can_stand(i: usize, b: u8) -> bool {
     if i % 9 == 8 {
         return b == b' ';
     }
-    (b'0' <= b) & (b <= b'9') | (b'a' <= b) & (b <= b'f')
+    matches!(b, b'0'..=b'9' | b'a'..=b'f')
 }
 
 pub fn is_record(line: &[u8]) -> bool {
-    let mut i: usize = 0;
-    while i < line.len() {
-        if !can_stand(i, line[i]) {
-            return false;
-        }
-        i += 1;
-    }
-    i % 9 == 8
+    line.len() % 9 == 8 && line.iter().enumerate().all(|(i, b)| can_stand(i, *b))
 }
 
 // How many words a record has.
@@ -59,7 +52,7 @@ fn half(line: &[u8], at: usize) -> u32
         + digit(line[at + 3])
 }
 
-// Word k of a line, counted from 0; 0 where the line is too short.
+// Word k of a line, counted from 0; 0 where the line is too short, and no None: each kind compares how long the record is.
 pub fn word(line: &[u8], k: usize) -> u32 {
     if line.len() < 8 {
         return 0;
@@ -80,22 +73,10 @@ pub fn from_word(line: &[u8], k: usize) -> &[u8] {
 
 // Word k of a line as a float; every NaN's pattern is the one NaN.
 pub fn float(line: &[u8], k: usize) -> f32 {
-    let bits = word(line, k) as u64;
-    binary32::put_together(bits >= 0x8000_0000, bits % 0x8000_0000)
-}
-
-// The bits of a float; every NaN is 7fc00000.
-pub fn bits_of(x: f32) -> u32 {
-    if x != x {
-        return 0x7fc0_0000;
-    }
-    f32::to_bits(x)
+    binary32::from_pattern(word(line, k))
 }
 
 // A word in two's complement.
 pub fn signed_of(n: u32) -> i32 {
-    if n < 0x8000_0000 {
-        return n as i32;
-    }
-    -1 - (0xffff_ffff - n) as i32
+    n.cast_signed()
 }

@@ -1,12 +1,11 @@
 // Samples, and three channels of them one after the other, a word to a sample.
-use crate::{bits_of, float, from_word, word};
+// Three slices, as `channels` says.
+use crate::{float, from_word, word};
 
-// Each sample takes the word in its place.
+// Each sample takes the word in its place. So do bytes and codes in `recorded`: a loop of one line each, and a common one would take a closure.
 pub fn read_samples(words: &[u8], samples: &mut [f32]) {
-    let mut i: usize = 0;
-    while i < samples.len() {
-        samples[i] = float(words, i);
-        i += 1;
+    for (i, sample) in samples.iter_mut().enumerate() {
+        *sample = float(words, i);
     }
 }
 
@@ -20,14 +19,7 @@ pub fn read_channels(words: &[u8], a: &mut [f32], b: &mut [f32], c: &mut [f32]) 
 
 // Whether each sample has the bits of the word in its place, with all NaNs as one.
 pub fn same_samples(words: &[u8], samples: &[f32]) -> bool {
-    let mut i: usize = 0;
-    while i < samples.len() {
-        if bits_of(samples[i]) != word(words, i) {
-            return false;
-        }
-        i += 1;
-    }
-    true
+    samples.iter().enumerate().all(|(i, sample)| binary32::to_pattern(*sample) == word(words, i))
 }
 
 pub fn same_channels(words: &[u8], a: &[f32], b: &[f32], c: &[f32]) -> bool {

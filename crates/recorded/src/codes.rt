@@ -6,14 +6,7 @@ const ROOM: usize = 256;
 
 // Whether each level from the first to the last has this code.
 fn return_to(code: u16, first: u16, last: u16) -> bool {
-    let mut level = first as u32;
-    while level <= last as u32 {
-        if srgb10::code(level as u16) != code {
-            return false;
-        }
-        level += 1;
-    }
-    true
+    (first..=last).all(|level| srgb10::code(level) == code)
 }
 
 // A word as a code or a level.
@@ -30,10 +23,8 @@ pub(crate) fn same_code(words: &[u8]) -> bool {
 }
 
 fn read_codes(words: &[u8], codes: &mut [u16]) {
-    let mut i: usize = 0;
-    while i < codes.len() {
-        codes[i] = small(words, i);
-        i += 1;
+    for (i, code) in codes.iter_mut().enumerate() {
+        *code = small(words, i);
     }
 }
 

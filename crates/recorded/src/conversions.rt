@@ -1,4 +1,5 @@
 // Single numbers, and conversions of samples.
+// Three slices, as `channels` says.
 use crate::byte_channels::{ROOM, length};
 use record::from_word;
 
@@ -9,13 +10,13 @@ pub(crate) fn same_fused(words: &[u8]) -> bool {
         record::float(words, 1),
         record::float(words, 2),
     );
-    record::words(words) == 4 && record::bits_of(r) == record::word(words, 3)
+    record::words(words) == 4 && binary32::to_pattern(r) == record::word(words, 3)
 }
 
 // x and the answer.
 pub(crate) fn same_cbrt(words: &[u8]) -> bool {
     let r = cbrt::cbrt(record::float(words, 0));
-    record::words(words) == 2 && record::bits_of(r) == record::word(words, 1)
+    record::words(words) == 2 && binary32::to_pattern(r) == record::word(words, 1)
 }
 
 // Reads the given channels, converts them and compares what is answered and left with the answer's.

@@ -2,25 +2,27 @@
 // the number.
 use crate::blocks::read_bytes;
 use crate::byte_channels::{ROOM, length, past, same_bytes};
-use half::Fitting;
+use half::Unfit;
 use record::from_word;
 
-fn fitted(way: u32, line: &[u8], out: &mut [u8]) -> Fitting {
-    if way == 0 {
-        return half::widen(line, out);
-    }
-    half::narrow(line, out)
-}
-
 // Reads both lines, widens or narrows and compares what is answered and left with the answer's.
-fn reads(way: u32, words: &[u8], line: &mut [u8], out: &mut [u8]) -> bool {
+fn reads<F: Fn(&[u8], &mut [u8]) -> Result<(), Unfit>>(
+    fitted: F,
+    words: &[u8],
+    line: &mut [u8],
+    out: &mut [u8],
+) -> bool
+    requires { F.IsAlwaysCallable fitted }
+{
     let at_out = past(words, line.len());
     let answer = past(at_out, out.len());
     let last = past(answer, out.len());
     read_bytes(words, line);
     read_bytes(at_out, out);
-    let reached = half::paper(fitted(way, line, out));
-    same_bytes(answer, out) & (last.len() == 8) & (record::word(last, 0) == reached.number as u32)
+    let answered = fitted(line, out);
+    same_bytes(answer, out)
+        && last.len() == 8
+        && record::word(last, 0) == half::paper(answered).number as u32
 }
 
 pub(crate) fn same_half(words: &[u8]) -> bool {
@@ -28,10 +30,10 @@ pub(crate) fn same_half(words: &[u8]) -> bool {
     let m = length(words, 2);
     let mut line = [0u8; ROOM];
     let mut out = [0u8; ROOM];
-    reads(
-        record::word(words, 0),
-        from_word(words, 3),
-        &mut line[..n],
-        &mut out[..m],
-    )
+    let given = from_word(words, 3);
+    if record::word(words, 0) == 0 {
+        reads(half::widen, given, &mut line[..n], &mut out[..m])
+    } else {
+        reads(half::narrow, given, &mut line[..n], &mut out[..m])
+    }
 }

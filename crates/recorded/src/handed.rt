@@ -2,7 +2,6 @@
 // After the list and its count: check; merging's number; run; the numbers of a run on unequal channels, of a strip, and of writing in
 // version 1, 2 and 3; n, the n bytes of the text, four to a word. Check and run are number, position and width.
 use crate::blocks::{ROOM, begin_alike, read_bytes};
-use crate::writing;
 use list::Plan;
 use notation::Answer;
 use op::Op;
@@ -18,10 +17,8 @@ pub(crate) fn tells(answer: Answer, words: &[u8]) -> bool {
 // Merging answers this number, and a refused list is the empty list with width 0.
 fn merges(list: Plan, number: u32) -> bool {
     let merged = merge::merge(list);
-    let reached = merged.answer;
-    let plan = merged.plan;
-    merge::paper(reached).number as u32 == number
-        && (number == 0 || same::same_list(plan, list::empty(0)))
+    merge::paper(merged.answer).number as u32 == number
+        && (merged.answer.is_ok() || same::same_list(merged.plan, list::empty(0)))
 }
 
 // Where 10 refuses a list, what is made of it is the empty list with width 0; else it stays, and with Clip behind it ends where it did.
@@ -47,49 +44,35 @@ fn other_differs(list: Plan) -> bool {
 
 // What judging, and opening a run by strips, answer.
 fn judged(list: Plan, words: &[u8]) -> bool {
-    let judgement = judge::judge(list);
     let opened = strips::open(strips::closed(), list);
-    let answer = opened.answer;
-    tells(judge::paper(judgement), words) && tells(judge::paper(answer), words)
+    tells(judge::paper(judge::judge(list)), words) && tells(judge::paper(opened.answer), words)
 }
 
 // What a run answers; where it is refused, the samples stay.
 fn runs(list: Plan, words: &[u8]) -> bool {
-    let mut a: [f32; 2] = [0.5, 2.0];
-    let mut b: [f32; 2] = [0.25, 2.0];
-    let mut c: [f32; 2] = [0.125, 2.0];
+    let given: [[f32; 2]; 3] = [[0.5, 2.0], [0.25, 2.0], [0.125, 2.0]];
+    let [mut a, mut b, mut c] = given;
     let ran = run::run(list, &mut a, &mut b, &mut c);
-    let outcome = ran.outcome;
-    let kept = (a[0] == 0.5) & (b[0] == 0.25) & (c[0] == 0.125) & (a[1] == 2.0) & (c[1] == 2.0);
-    tells(run::paper(outcome), words) && (kept || record::word(words, 0) == 0)
+    tells(run::paper(ran.outcome), words) && (ran.outcome.is_ok() || [a, b, c] == given)
 }
 
 fn runs_unequal(list: Plan, number: u32) -> bool {
-    let mut a: [f32; 2] = [0.5, 2.0];
-    let mut b: [f32; 2] = [0.5, 2.0];
-    let mut c: [f32; 1] = [0.5];
-    let ran = run::run(list, &mut a, &mut b, &mut c);
-    let outcome = ran.outcome;
-    run::paper(outcome).number as u32 == number
+    let ran = run::run(list, &mut [0.5, 2.0], &mut [0.5, 2.0], &mut [0.5]);
+    run::paper(ran.outcome).number as u32 == number
 }
 
 // What a strip and a close answer where the caller holds a state with this list.
 fn strip_tells(list: Plan, number: u32) -> bool {
-    let mut a: [f32; 1] = [0.5];
-    let mut b: [f32; 1] = [0.5];
-    let mut c: [f32; 1] = [0.5];
     let state = State { plan: list, bad: 0 };
-    let given = strips::strip(state, &mut a, &mut b, &mut c);
-    let stripped = given.answer;
+    let stripped = strips::strip(state, &mut [0.5], &mut [0.5], &mut [0.5]);
     let closed = strips::close(state);
-    let ended = closed.answer;
-    strips::paper(stripped).number as u32 == number && strips::paper(ended).number as u32 == number
+    strips::paper(stripped.answer).number as u32 == number
+        && strips::paper(closed.answer).number as u32 == number
 }
 
 // Writing, where there is room, answers this number.
 fn writes(list: Plan, version: u16, number: u32) -> bool {
-    let mut bytes = [0u8; ROOM];
-    let written = writer::write(list, version, &mut bytes);
+    let written = writer::write(list, version, &mut [0; ROOM]);
     writer::paper(written).number as u32 == number
 }
 
@@ -98,7 +81,7 @@ fn same_text(words: &[u8], text: &[u8; 1024], size: usize) -> bool {
     let n = record::word(words, 0) as usize;
     let mut expected = [0u8; 1024];
     read_bytes(from_word(words, 1), &mut expected);
-    record::words(words) == 1 + (n + 3) / 4 && size == n && begin_alike(text, &expected, n)
+    record::words(words) == 1 + n.div_ceil(4) && size == n && begin_alike(text, &expected, n)
 }
 
 fn prints(list: Plan, words: &[u8]) -> bool {
@@ -108,9 +91,8 @@ fn prints(list: Plan, words: &[u8]) -> bool {
 }
 
 // The answers of the entries, one after the other.
-fn answers(list: Plan, words: &[u8]) -> bool {
-    let verdict = list::check(list);
-    tells(list::paper(verdict), words)
+pub(crate) fn same_answers(list: Plan, words: &[u8]) -> bool {
+    tells(list::paper(list::check(list)), words)
         && merges(list, record::word(words, 3))
         && grows(list, record::word(words, 3) == 10)
         && other_differs(list)
@@ -125,26 +107,18 @@ fn answers(list: Plan, words: &[u8]) -> bool {
 }
 
 // Start width, list, and a count that may be another than that of the ops which stand in the slots; and the number of the count's word.
-pub(crate) fn list_with_count(words: &[u8]) -> Found {
-    let found = record::list_at(words, 0, 1);
-    let mut list = found.list;
-    list.count = record::word(words, found.next) as usize;
-    Found {
-        list,
-        next: found.next,
-    }
+pub(crate) fn list_with_count(words: &[u8]) -> Option<Found> {
+    let mut found = record::list_at(words, 0, 1)?;
+    found.list.count = record::word(words, found.next) as usize;
+    Some(found)
 }
 
-// A list with its count; and what every entry answers, or what is written.
-pub(crate) fn same_handed(words: &[u8], written: bool) -> bool {
-    let found = list_with_count(words);
-    if found.next == 0 {
+// A list with its count; and what is compared with the words after: every entry's answers, or what is written.
+pub(crate) fn same_handed<F: Fn(Plan, &[u8]) -> bool>(words: &[u8], same: F) -> bool
+    requires { F.IsAlwaysCallable same }
+{
+    let Some(found) = list_with_count(words) else {
         return false;
-    }
-    let list = found.list;
-    let rest = from_word(from_word(words, found.next), 1);
-    if written {
-        return writing::same_written(list, rest);
-    }
-    answers(list, rest)
+    };
+    same(found.list, from_word(from_word(words, found.next), 1))
 }

@@ -6,55 +6,39 @@ use record::from_word;
 
 // The start width, the list, and what it merges to, which is all that is left of the record.
 fn gives(joined: Plan, words: &[u8]) -> bool {
-    let given = record::list_at(words, 0, 1);
-    if given.next == 0 {
+    let Some(given) = record::list_at(words, 0, 1) else {
         return false;
-    }
-    let last = record::list_at(words, 0, given.next);
-    if last.next != record::words(words) {
+    };
+    let Some(last) = record::list_at(words, 0, given.next) else {
         return false;
-    }
-    let expected = given.list;
-    let expected_merged = last.list;
-    let reached = merge::merge(joined);
-    let merged = reached.plan;
-    same::same_list(joined, expected) && same::same_list(merged, expected_merged)
+    };
+    last.next == record::words(words)
+        && same::same_list(joined, given.list)
+        && same::same_list(merge::merge(joined).plan, last.list)
 }
 
 // Where the first list was merged before, the join merges to the same list.
 fn merged_before(first: Plan, second: Plan, joined: Plan) -> bool {
-    let before = merge::merge(first);
-    let merged_first = before.plan;
-    let again = join::join(merged_first, second);
-    let joined_again = again.plan;
-    let one = merge::merge(joined);
-    let other = merge::merge(joined_again);
-    let merged = one.plan;
-    let merged_again = other.plan;
-    same::same_list(merged, merged_again)
+    let again = join::join(merge::merge(first).plan, second).plan;
+    same::same_list(merge::merge(joined).plan, merge::merge(again).plan)
 }
 
 fn same_join(first: Plan, second: Plan, words: &[u8]) -> bool {
     let joined = join::join(first, second);
-    let answer = joined.answer;
-    let plan = joined.plan;
-    tells(list::paper(answer), words)
-        && gives(plan, from_word(words, 3))
-        && (record::word(words, 0) == 10 || merged_before(first, second, plan))
+    tells(list::paper(joined.answer), words)
+        && gives(joined.plan, from_word(words, 3))
+        && (record::word(words, 0) == 10 || merged_before(first, second, joined.plan))
 }
 
 // The first list and the second, each with its count, and what joining them answers and gives.
 pub(crate) fn same_joined(words: &[u8]) -> bool {
-    let first = list_with_count(words);
-    if first.next == 0 {
+    let Some(first) = list_with_count(words) else {
         return false;
-    }
+    };
     let behind = from_word(from_word(words, first.next), 1);
-    let second = list_with_count(behind);
-    if second.next == 0 {
+    let Some(second) = list_with_count(behind) else {
         return false;
-    }
-    let a = first.list;
-    let b = second.list;
-    same_join(a, b, from_word(from_word(behind, second.next), 1))
+    };
+    let answer = from_word(from_word(behind, second.next), 1);
+    same_join(first.list, second.list, answer)
 }

@@ -18,6 +18,7 @@ mod writing;
 
 use record::from_word;
 
+// A kind stays a number, as the record has it: an enum would say each twice more, in its TryFrom and below.
 const FUSED: u32 = 1;
 
 const CBRT: u32 = 2;
@@ -82,10 +83,22 @@ fn same_matrix(kind: u32, words: &[u8]) -> bool {
         ILLUMINANT_TO_XYZ => matrices::same_xyz(words),
         ADAPT_MAT_XY => matrices::same_adapt_xy(words),
         ADAPT_MAT => matrices::same_adapt(words),
-        PRIMARIES_TO_XYZ_MAT_XY => matrices::same_to_xyz_xy(words),
-        PRIMARIES_TO_XYZ_MAT => matrices::same_to_xyz(words),
-        XYZ_TO_PRIMARIES_MAT_XY => matrices::same_from_xyz_xy(words),
-        XYZ_TO_PRIMARIES_MAT => matrices::same_from_xyz(words),
+        PRIMARIES_TO_XYZ_MAT_XY => matrices::same_mat_xy(
+            words,
+            |p, w| ciexyz::primaries_to_xyz_mat(p, w),
+        ),
+        PRIMARIES_TO_XYZ_MAT => matrices::same_mat_named(
+            words,
+            |p, w| ciexyz::primaries_to_xyz_mat(p, w),
+        ),
+        XYZ_TO_PRIMARIES_MAT_XY => matrices::same_mat_xy(
+            words,
+            |p, w| ciexyz::xyz_to_primaries_mat(p, w),
+        ),
+        XYZ_TO_PRIMARIES_MAT => matrices::same_mat_named(
+            words,
+            |p, w| ciexyz::xyz_to_primaries_mat(p, w),
+        ),
         _ => false,
     }
 }
@@ -107,13 +120,13 @@ pub fn same(line: &[u8]) -> bool {
         STRIPS => lists::same_run(words, true),
         BLOCK => blocks::same_block(words),
         SCREEN => screens::same_screen(words),
-        WRITING => handed::same_handed(words, true),
-        BYTES => byte_channels::same_conversion(words, kind),
-        BYTES_BACK => byte_channels::same_conversion(words, kind),
-        LINE => byte_channels::same_conversion(words, kind),
+        WRITING => handed::same_handed(words, writing::same_written),
+        BYTES => byte_channels::same_conversion(words, ycbcr_bytes::ycbcr_to_rgb),
+        BYTES_BACK => byte_channels::same_conversion(words, rgb_bytes::rgb_to_ycbcr),
+        LINE => byte_channels::same_conversion(words, half_line::line_to_rgb),
         CODE => codes::same_code(words),
         LEVELS => codes::same_levels(words),
-        HANDED => handed::same_handed(words, false),
+        HANDED => handed::same_handed(words, handed::same_answers),
         JOIN => joins::same_joined(words),
         HALF => halves::same_half(words),
         _ => same_matrix(kind, words),

@@ -1,8 +1,8 @@
 // Lists that are merged, and lists that are run.
+// Three slices, as `channels` says.
 use crate::cuts;
 use counts::Stepped;
 use list::Plan;
-use notation::Answer;
 use op::Op;
 use record::from_word;
 
@@ -11,42 +11,35 @@ const ROOM: usize = 160;
 
 // Start width, list and the answer, a list.
 pub(crate) fn same_merged(words: &[u8]) -> bool {
-    let given = record::list_at(words, 0, 1);
-    if given.next == 0 {
+    let Some(given) = record::list_at(words, 0, 1) else {
         return false;
-    }
-    let answer = record::list_at(words, 0, given.next);
-    if answer.next != record::words(words) {
+    };
+    let Some(answer) = record::list_at(words, 0, given.next) else {
         return false;
-    }
-    let list = given.list;
-    let expected = answer.list;
-    let merged = merge::merge(list);
-    let reached = merged.answer;
-    let plan = merged.plan;
-    merge::paper(reached).number == 0 && same::same_list(plan, expected)
+    };
+    let merged = merge::merge(given.list);
+    answer.next == record::words(words)
+        && merged.answer.is_ok()
+        && same::same_list(merged.plan, answer.list)
 }
 
-// What a run ended with: 01's answer, and how many samples went bad.
+// What a run that is not refused ended with: its width, and how many samples went bad.
 #[derive(Clone, Copy)]
 pub struct Reached {
-    pub answer: Answer,
+    pub width: u8,
     pub bad: u64,
 }
 
 // How many words say the strips: their number, each, and the count of each. A line has fewer than 4,000.
 fn strip_words(cut: bool, words: &[u8]) -> u32 {
     let number = record::word(words, 0);
-    if !cut {
-        return 0;
-    }
-    if number < 4000 {
+    if cut && number < 4000 {
         return 2 * number + 1;
     }
     0
 }
 
-// Reads the given channels, and runs the list on them, at once or by strips.
+// Reads the given channels, and runs the list on them, at once or by strips: a flag and no closure, since it says too how the record is laid out.
 fn reached_by(
     list: Plan,
     cut: bool,
@@ -54,20 +47,19 @@ fn reached_by(
     a: &mut [f32],
     b: &mut [f32],
     c: &mut [f32],
-) -> Reached {
+) -> Option<Reached> {
     record::read_channels(given, a, b, c);
     if cut {
         return cuts::by_strips(list, from_word(given, 3 * a.len()), a, b, c);
     }
     let ran = run::run(list, a, b, c);
-    let outcome = ran.outcome;
-    Reached {
-        answer: run::paper(outcome),
+    Some(Reached {
+        width: ran.outcome.ok()?,
         bad: ran.bad,
-    }
+    })
 }
 
-// The op's own step.
+// The op's own step: as `apply`, by the steps that report.
 fn stepped(op: Op, width: u8, a: &mut [f32], b: &mut [f32], c: &mut [f32]) -> Stepped {
     match op {
         Op::XybToMixedLms {
@@ -83,12 +75,22 @@ fn stepped(op: Op, width: u8, a: &mut [f32], b: &mut [f32], c: &mut [f32]) -> St
 }
 
 // Width, how many went bad, and the channels.
-fn same_reached(reached: Reached, answer: &[u8], a: &[f32], b: &[f32], c: &[f32]) -> bool {
-    let told = reached.answer;
-    told.number == 0
-        && told.width as u32 == record::word(answer, 0)
-        && reached.bad == record::word(answer, 1) as u64
+fn same_reached(reached: Option<Reached>, answer: &[u8], a: &[f32], b: &[f32], c: &[f32]) -> bool {
+    let Some(Reached { width, bad }) = reached else {
+        return false;
+    };
+    width as u32 == record::word(answer, 0)
+        && bad == record::word(answer, 1) as u64
         && record::same_channels(from_word(answer, 2), a, b, c)
+}
+
+// What the own step of the first op ends with.
+fn reached_in_step(list: Plan, a: &mut [f32], b: &mut [f32], c: &mut [f32]) -> Option<Reached> {
+    let step = stepped(list.ops[0].op, list.start, a, b, c);
+    Some(Reached {
+        width: step.answer.ok()?,
+        bad: step.bad,
+    })
 }
 
 // Of a list of one op, what that op's own step ends with.
@@ -104,15 +106,7 @@ fn step_same(
         return true;
     }
     record::read_channels(given, a, b, c);
-    let slots = list.ops;
-    let slot = slots[0];
-    let op = slot.op;
-    let step = stepped(op, list.start, a, b, c);
-    let told = step.answer;
-    let reached = Reached {
-        answer: channels::paper(told),
-        bad: step.bad,
-    };
+    let reached = reached_in_step(list, a, b, c);
     same_reached(reached, answer, a, b, c)
 }
 
@@ -159,10 +153,8 @@ fn same_after(list: Plan, cut: bool, words: &[u8]) -> bool {
 
 // Start width, list, n, the three channels, and where these are cut the strips; width, how many went bad and the three channels.
 pub(crate) fn same_run(words: &[u8], cut: bool) -> bool {
-    let found = record::list_at(words, 0, 1);
-    if found.next == 0 {
+    let Some(found) = record::list_at(words, 0, 1) else {
         return false;
-    }
-    let list = found.list;
-    same_after(list, cut, from_word(words, found.next))
+    };
+    same_after(found.list, cut, from_word(words, found.next))
 }

@@ -1,7 +1,9 @@
 // Calls of the matrix functions: arguments, and the answer last. The words are those after a record's kind.
-use ciexyz::{Mat3, Triangle, Vec3};
+// Named values and chromaticities apart: what reads the one and the other is most of each function.
+use ciexyz::{Mat3, Primaries, Triangle, Vec3, WhitePoint, Xy};
 use record::{
-    from_word, mat_of, primaries_of, primaries_words, vec_of, white_of, white_words, xy_of,
+    from_word, mat_of, primaries_of, primaries_words, same_samples, vec_of, white_of, white_words,
+    xy_of,
 };
 
 fn triangle_of(words: &[u8]) -> Triangle {
@@ -12,22 +14,14 @@ fn triangle_of(words: &[u8]) -> Triangle {
     }
 }
 
-fn same_row(words: &[u8], x: f32, y: f32, z: f32) -> bool {
-    record::bits_of(x) == record::word(words, 0)
-        && record::bits_of(y) == record::word(words, 1)
-        && record::bits_of(z) == record::word(words, 2)
-}
-
 // The answer is all that is left of the record.
 fn same_vec(answer: &[u8], v: Vec3) -> bool {
-    record::words(answer) == 3 && same_row(answer, v.v0, v.v1, v.v2)
+    record::words(answer) == 3 && same_samples(answer, &[v.v0, v.v1, v.v2])
 }
 
 fn same_mat(answer: &[u8], m: Mat3) -> bool {
-    record::words(answer) == 9
-        && same_row(answer, m.m0, m.m1, m.m2)
-        && same_row(from_word(answer, 3), m.m3, m.m4, m.m5)
-        && same_row(from_word(answer, 6), m.m6, m.m7, m.m8)
+    let entries = [m.m0, m.m1, m.m2, m.m3, m.m4, m.m5, m.m6, m.m7, m.m8];
+    record::words(answer) == 9 && same_samples(answer, &entries)
 }
 
 pub(crate) fn same_matmul3(words: &[u8]) -> bool {
@@ -58,55 +52,46 @@ pub(crate) fn same_adapt_xy(words: &[u8]) -> bool {
     let to = from_word(words, 2);
     same_mat(
         from_word(words, 4),
-        ciexyz::adapt_mat_xy(xy_of(words), xy_of(to)),
+        ciexyz::adapt_mat(xy_of(words), xy_of(to)),
     )
+}
+
+// The part behind a white point, where one stands, and behind primaries.
+fn behind_white(words: &[u8]) -> Option<&[u8]> {
+    Some(from_word(words, white_words(words)?))
+}
+
+fn behind_primaries(words: &[u8]) -> Option<&[u8]> {
+    Some(from_word(words, primaries_words(words)?))
 }
 
 pub(crate) fn same_adapt(words: &[u8]) -> bool {
-    let to = from_word(words, white_words(words));
-    let answer = from_word(to, white_words(to));
-    white_words(words) != 0
-        && white_words(to) != 0
-        && same_mat(answer, ciexyz::adapt_mat(white_of(words), white_of(to)))
+    let Some(to) = behind_white(words) else {
+        return false;
+    };
+    let Some(answer) = behind_white(to) else {
+        return false;
+    };
+    same_mat(answer, ciexyz::adapt_mat(white_of(words), white_of(to)))
 }
 
-pub(crate) fn same_to_xyz_xy(words: &[u8]) -> bool {
+// A matrix of chromaticities.
+pub(crate) fn same_mat_xy<F: Fn(Triangle, Xy) -> Mat3>(words: &[u8], mat: F) -> bool
+    requires { F.IsAlwaysCallable mat }
+{
     let white = from_word(words, 6);
-    same_mat(
-        from_word(words, 8),
-        ciexyz::primaries_to_xyz_mat_xy(triangle_of(words), xy_of(white)),
-    )
+    same_mat(from_word(words, 8), mat(triangle_of(words), xy_of(white)))
 }
 
-pub(crate) fn same_from_xyz_xy(words: &[u8]) -> bool {
-    let white = from_word(words, 6);
-    same_mat(
-        from_word(words, 8),
-        ciexyz::xyz_to_primaries_mat_xy(triangle_of(words), xy_of(white)),
-    )
-}
-
-// Whether primaries and a white point stand here.
-fn are_named(words: &[u8], white: &[u8]) -> bool {
-    primaries_words(words) != 0 && white_words(white) != 0
-}
-
-pub(crate) fn same_to_xyz(words: &[u8]) -> bool {
-    let white = from_word(words, primaries_words(words));
-    let answer = from_word(white, white_words(white));
-    are_named(words, white)
-        && same_mat(
-            answer,
-            ciexyz::primaries_to_xyz_mat(primaries_of(words), white_of(white)),
-        )
-}
-
-pub(crate) fn same_from_xyz(words: &[u8]) -> bool {
-    let white = from_word(words, primaries_words(words));
-    let answer = from_word(white, white_words(white));
-    are_named(words, white)
-        && same_mat(
-            answer,
-            ciexyz::xyz_to_primaries_mat(primaries_of(words), white_of(white)),
-        )
+// A matrix of named values.
+pub(crate) fn same_mat_named<F: Fn(Primaries, WhitePoint) -> Mat3>(words: &[u8], mat: F) -> bool
+    requires { F.IsAlwaysCallable mat }
+{
+    let Some(white) = behind_primaries(words) else {
+        return false;
+    };
+    let Some(answer) = behind_white(white) else {
+        return false;
+    };
+    same_mat(answer, mat(primaries_of(words), white_of(white)))
 }

@@ -5,29 +5,21 @@ use record::from_word;
 const ROOM: usize = 256;
 
 fn same_bytes(answer: &[u8], bytes: &[u8]) -> bool {
-    let mut i: usize = 0;
-    while i < bytes.len() {
-        if bytes[i] as u32 != record::word(answer, i) {
-            return false;
-        }
-        i += 1;
-    }
-    true
+    bytes
+        .iter()
+        .enumerate()
+        .all(|(i, byte)| *byte as u32 == record::word(answer, i))
 }
 
 // Reads the given samples, converts them and compares their bytes with the answer's.
 fn shows(given: &[u8], answer: &[u8], samples: &mut [f32], bytes: &mut [u8]) -> bool {
     record::read_samples(given, samples);
-    let reached = screen::paper(screen::screen_bytes(samples, bytes));
-    reached.number == 0 && same_bytes(answer, bytes)
+    screen::screen_bytes(samples, bytes).is_ok() && same_bytes(answer, bytes)
 }
 
 pub(crate) fn same_screen(words: &[u8]) -> bool {
     let n = record::word(words, 0) as usize;
-    if n > ROOM {
-        return false;
-    }
-    if record::words(words) != 1 + 2 * n {
+    if n > ROOM || record::words(words) != 1 + 2 * n {
         return false;
     }
     let mut samples = [0.0f32; ROOM];

@@ -1,4 +1,4 @@
-// Encodings and settings, from the first words of a part of a record.
+// Encodings and settings, from the first words of a part of a record. Apart from `numbers`, which has the like: a test does not share what it tests.
 use encoding::{ColourSpace, EnumColourEncoding, RenderingIntent, Settings};
 use record::from_word;
 
@@ -23,12 +23,12 @@ fn intent(number: u32) -> RenderingIntent {
 // An encoding is a colour space, a white point, primaries, a curve and an intent. The part from its primaries on, and from its curve on.
 fn at_primaries(words: &[u8]) -> &[u8] {
     let white = from_word(words, 1);
-    from_word(white, record::white_words(white))
+    from_word(white, record::white_words(white).unwrap_or(0))
 }
 
 fn at_curve(words: &[u8]) -> &[u8] {
     let primaries = at_primaries(words);
-    from_word(primaries, record::primaries_words(primaries))
+    from_word(primaries, record::primaries_words(primaries).unwrap_or(0))
 }
 
 pub(crate) fn after_encoding(words: &[u8]) -> &[u8] {
@@ -38,8 +38,8 @@ pub(crate) fn after_encoding(words: &[u8]) -> &[u8] {
 pub(crate) fn is_encoding(words: &[u8]) -> bool {
     let curve = at_curve(words);
     record::word(words, 0) <= 3
-        && record::white_words(from_word(words, 1)) != 0
-        && record::primaries_words(at_primaries(words)) != 0
+        && record::white_words(from_word(words, 1)).is_some()
+        && record::primaries_words(at_primaries(words)).is_some()
         && record::is_curve(curve)
         && record::word(curve, 2) <= 3
 }

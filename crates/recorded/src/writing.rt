@@ -1,6 +1,6 @@
 // Plan blocks that are written. After the list and its count: version, n, the n bytes of the buffer, four to a word; number, length, the n
 // bytes after.
-use crate::blocks::{ROOM, read_bytes, same_bytes};
+use crate::blocks::{ROOM, read_bytes};
 use list::Plan;
 use record::from_word;
 
@@ -18,17 +18,14 @@ fn writes(
     let written = writer::write(list, version, bytes);
     writer::paper(written).number as u32 == record::word(answer, 0)
         && writer::length(written) == record::word(answer, 1) as usize
-        && same_bytes(bytes, after)
+        && *bytes == *after
 }
 
 // What stands after the version: n, the bytes of the buffer and the answer.
 fn same_after(list: Plan, version: u16, words: &[u8]) -> bool {
     let n = record::word(words, 0) as usize;
-    if n > ROOM {
-        return false;
-    }
-    let taken = (n + 3) / 4;
-    if record::words(words) != 3 + 2 * taken {
+    let taken = n.div_ceil(4);
+    if n > ROOM || record::words(words) != 3 + 2 * taken {
         return false;
     }
     let mut bytes = [0u8; ROOM];
@@ -44,9 +41,8 @@ fn same_after(list: Plan, version: u16, words: &[u8]) -> bool {
 }
 
 pub(crate) fn same_written(list: Plan, words: &[u8]) -> bool {
-    let version = record::word(words, 0);
-    if version > 0xffff {
+    let Ok(version) = u16::try_from(record::word(words, 0)) else {
         return false;
-    }
-    same_after(list, version as u16, from_word(words, 1))
+    };
+    same_after(list, version, from_word(words, 1))
 }

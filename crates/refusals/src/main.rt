@@ -24,6 +24,7 @@ fn settings() -> Settings {
     }
 }
 
+// As in `worked`: each program builds what it needs, and none is above the other.
 fn side(colour_space: ColourSpace, white_point: WhitePoint, tf: Curve) -> ColourEncoding {
     ColourEncoding::Enum(EnumColourEncoding {
         colour_space,
@@ -35,15 +36,16 @@ fn side(colour_space: ColourSpace, white_point: WhitePoint, tf: Curve) -> Colour
 }
 
 fn show(rt: &impl Print, given: &str, answer: Answer) -> io::Result<()> {
-    let number = answer.number;
-    if number == 0 {
-        return println!(rt; "{given}: done");
+    let Answer {
+        number,
+        position,
+        ..
+    } = answer;
+    match number {
+        0 => println!(rt; "{given}: done"),
+        5 | 6 => println!(rt; "{given}: refused {number} at {position}"),
+        _ => println!(rt; "{given}: refused {number}"),
     }
-    if number == 5 || number == 6 {
-        let position = answer.position;
-        return println!(rt; "{given}: refused {number} at {position}");
-    }
-    println!(rt; "{given}: refused {number}")
 }
 
 fn show_plan(
@@ -53,8 +55,7 @@ fn show_plan(
     target: ColourEncoding,
 ) -> io::Result<()> {
     let planned = planner::plan(source, target, settings());
-    let reached = planned.answer;
-    show(rt, given, planner::paper(reached))
+    show(rt, given, planner::paper(planned.answer))
 }
 
 // 1, 2, 15 and 3.
@@ -92,57 +93,54 @@ fn plans(rt: &impl Print) -> io::Result<()> {
 
 // Runs the list on three channels, the last of them of these samples.
 fn show_run(rt: &impl Print, given: &str, plan: Plan, c: &mut [f32]) -> io::Result<()> {
-    let mut a: [f32; 3] = [0.5, 0.5, 0.5];
-    let mut b: [f32; 3] = [0.5, 0.5, 0.5];
-    let ran = run::run(plan, &mut a, &mut b, c);
-    let outcome = ran.outcome;
-    show(rt, given, run::paper(outcome))
+    let ran = run::run(plan, &mut [0.5; 3], &mut [0.5; 3], c);
+    show(rt, given, run::paper(ran.outcome))
 }
 
 // 4, 5 and 6.
 fn runs(rt: &impl Print) -> io::Result<()> {
-    let mut two: [f32; 2] = [0.5, 0.5];
-    let mut three: [f32; 3] = [0.5, 0.5, 0.5];
     let clip = list::push(list::empty(3), Op::Clip);
-    show_run(rt, "a run on three, three and two samples", clip, &mut two)?;
+    show_run(
+        rt,
+        "a run on three, three and two samples",
+        clip,
+        &mut [0.5; 2],
+    )?;
     let luma = list::push(list::empty(3), Op::XyzToLuma);
     show_run(
         rt,
         "a run of XyzToLuma and again of XyzToLuma, which needs three channels",
         list::push(luma, Op::XyzToLuma),
-        &mut three,
+        &mut [0.5; 3],
     )?;
     let planned = planner::plan(
         side(ColourSpace::Rgb, WhitePoint::D65, Curve::Linear),
         side(ColourSpace::Rgb, WhitePoint::D65, Curve::Srgb),
         settings(),
     );
-    let plan = planned.plan;
     show_run(
         rt,
         "a run of a plan to sRGB, whose curve is not carried",
-        plan,
-        &mut three,
+        planned.plan,
+        &mut [0.5; 3],
     )
 }
 
 // 10: the list ends with one channel, and says three.
 fn handed(rt: &impl Print) -> io::Result<()> {
-    let mut three: [f32; 3] = [0.5, 0.5, 0.5];
     let mut stale = list::push(list::empty(3), Op::XyzToLuma);
     stale.end = 3;
     show_run(
         rt,
         "a run of XyzToLuma in a list that says it ends with three channels",
         stale,
-        &mut three,
+        &mut [0.5; 3],
     )
 }
 
 fn show_block(rt: &impl Print, given: &str, bytes: &[u8]) -> io::Result<()> {
     let read = block::read(bytes);
-    let reached = read.answer;
-    show(rt, given, block::paper(reached))
+    show(rt, given, block::paper(read.answer))
 }
 
 // 7, 8, 9 and 10.
@@ -181,20 +179,19 @@ fn blocks(rt: &impl Print) -> io::Result<()> {
 
 // 11.
 fn strips(rt: &impl Print) -> io::Result<()> {
-    let mut a: [f32; 1] = [0.5];
-    let mut b: [f32; 1] = [0.5];
-    let mut c: [f32; 1] = [0.5];
-    let given = strips::strip(strips::closed(), &mut a, &mut b, &mut c);
-    let stripped = given.answer;
-    show(rt, "a strip without an open run", strips::paper(stripped))
+    let stripped = strips::strip(strips::closed(), &mut [0.5], &mut [0.5], &mut [0.5]);
+    show(
+        rt,
+        "a strip without an open run",
+        strips::paper(stripped.answer),
+    )
 }
 
 fn show_writing(rt: &impl Print, given: &str, plan: Plan, version: u16) -> io::Result<()> {
-    let mut seven = [0u8; 7];
     show(
         rt,
         given,
-        writer::paper(writer::write(plan, version, &mut seven)),
+        writer::paper(writer::write(plan, version, &mut [0; 7])),
     )
 }
 
@@ -231,45 +228,38 @@ fn writings(rt: &impl Print) -> io::Result<()> {
 
 // 13.
 fn conversions(rt: &impl Print) -> io::Result<()> {
-    let mut cb: [f32; 1] = [0.0];
-    let mut y: [f32; 1] = [0.5];
-    let mut cr: [f32; 1] = [0.0];
     show(
         rt,
         "a conversion for firmware 5",
-        firmware::paper(ycbcr::ycbcr_to_rgb(5, &mut cb, &mut y, &mut cr)),
+        firmware::paper(ycbcr::ycbcr_to_rgb(5, &mut [0.0], &mut [0.5], &mut [0.0])),
     )
 }
 
 // 4 again.
 fn lines(rt: &impl Print) -> io::Result<()> {
-    let mut out = [0u8; 8];
     show(
         rt,
         "five chroma bytes widened to eight",
-        half::paper(half::widen(&[90, 100, 110, 120, 130], &mut out)),
+        half::paper(half::widen(&[90, 100, 110, 120, 130], &mut [0; 8])),
     )
 }
 
 // 14.
 fn codes(rt: &impl Print) -> io::Result<()> {
-    let mut levels: [f32; 2] = [0.0, 0.0];
     show(
         rt,
         "the codes 1023 and 1024, of which the last is none",
-        srgb10_levels::paper(srgb10_levels::code_levels(&[1023, 1024], &mut levels)),
+        srgb10_levels::paper(srgb10_levels::code_levels(&[1023, 1024], &mut [0.0; 2])),
     )
 }
 
 fn show_join(rt: &impl Print, given: &str, first: Plan, second: Plan) -> io::Result<()> {
     let joined = join::join(first, second);
-    let answer = joined.answer;
-    show(rt, given, list::paper(answer))
+    show(rt, given, list::paper(joined.answer))
 }
 
 fn doubled(plan: Plan) -> Plan {
-    let joined = join::join(plan, plan);
-    joined.plan
+    join::join(plan, plan).plan
 }
 
 // 10 and 5, in the first list, between the two, and in the second.

@@ -5,13 +5,19 @@ ghost use Rattle.std.specs.Prelude.{◌<◌};
 
 use std::io;
 
+// A kind stays a number, since a line may have one that is not known, which counts under 0.
 const KINDS: usize = 32;
+
+#[derive(Clone, Copy)]
+struct Count {
+    ran: u64,
+    differ: u64,
+}
 
 // The counts by kind, where 0 stands for a line that is no record of a known kind.
 #[derive(Clone, Copy)]
 struct Tally {
-    ran: [u64; KINDS],
-    differ: [u64; KINDS],
+    kinds: [Count; KINDS],
     lines: u64,
     all_same: bool,
 }
@@ -35,12 +41,12 @@ fn show(rt: &impl Print, number: u64, line: &[u8]) -> io::Result<()> {
 fn counted(rt: &impl Print, tally: Tally, line: &[u8]) -> io::Result<Tally> {
     let kind = kind_of(line);
     let mut next = tally;
-    next.lines = std::num::wrapping_add_u64(tally.lines, 1);
-    next.ran[kind] = std::num::wrapping_add_u64(tally.ran[kind], 1);
+    next.lines = tally.lines.wrapping_add(1);
+    next.kinds[kind].ran = tally.kinds[kind].ran.wrapping_add(1);
     if recorded::same(line) {
         return Ok(next);
     }
-    next.differ[kind] = std::num::wrapping_add_u64(tally.differ[kind], 1);
+    next.kinds[kind].differ = tally.kinds[kind].differ.wrapping_add(1);
     if tally.all_same {
         show(rt, next.lines, line)?;
     }
@@ -49,14 +55,11 @@ fn counted(rt: &impl Print, tally: Tally, line: &[u8]) -> io::Result<Tally> {
 }
 
 fn report(rt: &impl Print, tally: Tally) -> io::Result<()> {
-    let mut kind: usize = 0;
-    while kind < KINDS {
-        let ran = tally.ran[kind];
+    for kind in 0..KINDS {
+        let Count { ran, differ } = tally.kinds[kind];
         if ran > 0 {
-            let differ = tally.differ[kind];
             println!(rt; "kind {kind}: {ran} ran, {differ} differ")?;
         }
-        kind += 1;
     }
     Ok(())
 }
@@ -65,15 +68,14 @@ fn main(rt: HostRuntime) -> io::Result<()> {
     let mut buf = [0u8; 65_536];
     let mut p = lines::begun();
     let mut tally = Tally {
-        ran: [0; KINDS],
-        differ: [0; KINDS],
+        kinds: [Count { ran: 0, differ: 0 }; KINDS],
         lines: 0,
         all_same: true,
     };
     while 0 < p.turns {
         p = lines::next(&rt, &mut buf, p);
-        if p.has_line {
-            tally = counted(&rt, tally, lines::line(&buf, p))?;
+        if let Some(line) = lines::line(&buf, p) {
+            tally = counted(&rt, tally, line)?;
         }
     }
     report(&rt, tally)

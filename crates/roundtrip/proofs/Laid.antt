@@ -1,5 +1,6 @@
 -- What the reader makes of the bytes of a list, whatever follows them: it reads the list, or refuses it by 10 or by 9.
 -- The head by its bytes, for any version that there is, and the ops by Ops.
+use Rattle.std.specs.Prelude.{Ok, Err}
 use Prim.Native.Nat.{ℕ, ◌≤◌}
 use mathlib.Core.Path.{◌≡◌, refl, ap, sym, subst, ◌∙◌}
 use mathlib.Core.Bool.{true, false}
@@ -15,7 +16,7 @@ use Rattle.list.proofs.Building.{counted}
 use Rattle.block.specs.Fields.{byte_at}
 use Rattle.block.specs.Block.{version_of, head_of, paper, ops, listed, read_of}
 use Rattle.block.specs.Refusals.{Unreadable, AllStand, Met, Known, RightMark, behind, GoodHead, FalseEnd}
-use Rattle.block.specs.declared.Reading.TheVariants.{Done, BadOp, Malformed}
+use Rattle.block.specs.declared.ReadError.TheVariants.{BadOp, Malformed}
 use Rattle.block.specs.declared.Block.{Block}
 use Rattle.block.proofs.Exactly.{exactly}
 use Rattle.block.proofs.Judging.{is-done}
@@ -29,7 +30,7 @@ use Rattle.roundtrip.proofs.Words.{u16_back}
 
 -- the block of a list that is read whole
 abbrev pub block_read : ℕ → Plan → Block
-block_read v p = record { answer = Done; version = v; plan = plan_of p.start (ops_of p); used = length (block_of v p) }
+block_read v p = record { answer = (Ok tt); version = v; plan = plan_of p.start (ops_of p); used = length (block_of v p) }
 
 module _ (v : ℕ) (k : Known v) (p : Plan) (t : List ℕ) where
   abbrev laid : List ℕ
@@ -60,7 +61,7 @@ module _ (v : ℕ) (k : Known v) (p : Plan) (t : List ℕ) where
   end-byte e = rw e
 
   pub is-malformed : Unformed p.start p.count → paper (read_of laid).answer ≡ answer 10 0 0
-  is-malformed u = (exactly laid Malformed).1 (whole, mark, head-there, u)
+  is-malformed u = (exactly laid (Err Malformed)).1 (whole, mark, head-there, u)
 
   module _ (y : Typed p) (l : Lawful p) where
     head : GoodHead laid
@@ -81,4 +82,4 @@ module _ (v : ℕ) (k : Known v) (p : Plan) (t : List ℕ) where
     pub is-bad : bad_list p ≡ true → paper (read_of laid).answer ≡ answer 9 0 0
     is-bad e =
         let m : Met Unreadable (length (ops_of p)) (behind laid) = rw ops-behind (one-unreadable t (ops_of p) y.values e) in
-        (exactly laid BadOp).1 (head, inl (subst (λ (n : ℕ). Met Unreadable n (behind laid)) count-is m))
+        (exactly laid (Err BadOp)).1 (head, inl (subst (λ (n : ℕ). Met Unreadable n (behind laid)) count-is m))

@@ -1,5 +1,6 @@
 -- "Reading what was written returns the same list and the rest behind it" (W3), in either version, whatever bytes follow, and the rest is those,
 -- in their place. What stands at the front of the buffer is the block, and the reader makes of it the list (Laid).
+use Rattle.std.specs.Prelude.{Ok}
 use Prim.Native.Nat.{ℕ, ◌+◌}
 use mathlib.Core.Path.{◌≡◌, refl, sym, ap, ◌∙◌}
 use mathlib.Core.Bool.{true}
@@ -15,7 +16,6 @@ use Rattle.list.proofs.Building.{ops-of, plan-true, counted}
 use Rattle.same.specs.Same.{same_list as is_same_list}
 use Rattle.same.proofs.Exactly.{true_lists_same}
 use Rattle.block.specs.Block.{read_of, RestOf}
-use Rattle.block.specs.declared.Reading.TheVariants.{Done}
 use Rattle.block.specs.declared.Block.{Block}
 use Rattle.writer.specs.Bytes.{block_of}
 use Rattle.writer.specs.Writing.{paper, length_of, writing_of, left_of}
@@ -44,7 +44,7 @@ module _ (p : Plan) (y : Typed p) (v : ℕ) (old : List ℕ) (e : paper (writing
       ap read_of is-sent ∙ is_read v z.1 p t y z.0 ((fails_exactly (bad_exactly p)).1 z.2)
 
   -- the version that was asked for; the list, with Clip past its count; and as many bytes as were written
-  pub read_back : read_of sent ≡ record { answer = Done; version = v; plan = plan_of p.start (ops_of p); used = used }
+  pub read_back : read_of sent ≡ record { answer = (Ok tt); version = v; plan = plan_of p.start (ops_of p); used = used }
   read_back = is-read-back ∙ rw is-long
 
   -- "returns the same list"

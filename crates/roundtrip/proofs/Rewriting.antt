@@ -1,5 +1,6 @@
 -- "any block the reader accepts, written again from its list, gives the same block" (W3), "at the block's own version" (W8), "for blocks without curve 3"
 -- (W10), byte for byte, where there is room for it. The list that is read is lawful and holds no bad field, and its bytes are the block's own.
+use Rattle.std.specs.Prelude.{Ok}
 use Prim.Native.Nat.{ℕ, ◌+◌, ◌*◌, ◌≤◌, ◌<◌}
 use mathlib.Core.Path.{◌≡◌, refl, ap, sym, subst, ◌∙◌}
 use mathlib.Core.Bool.{Bool, true, false}
@@ -20,7 +21,6 @@ use Rattle.list.proofs.Building.{ops-of}
 use Rattle.block.specs.Fields.{byte_at}
 use Rattle.block.specs.Block.{paper, version_of, head_of, read_of}
 use Rattle.block.specs.Refusals.{AllStand, Known, behind, GoodHead, FalseEnd}
-use Rattle.block.specs.declared.Reading.TheVariants as Read
 use Rattle.block.specs.declared.Block.{Block}
 use Rattle.block.proofs.Exactly.{exactly}
 use Rattle.block.proofs.Judging.{is-done, used-fits}
@@ -30,8 +30,7 @@ use Rattle.block.proofs.Ways.{all_fit}
 use Rattle.writer.specs.Bytes.{u16_bytes, joined, op_bytes, end_bytes, head_bytes, block_of}
 use Rattle.writer.specs.Writing.{bad_op, bad_list, writing_of, left_by, left_of}
 use Rattle.writer.specs.Refusals.{RetiredList}
-use Rattle.writer.specs.declared.Writing.{Writing}
-use Rattle.writer.specs.declared.Writing.TheVariants.{Done}
+use Rattle.writer.specs.Writing.{Writing}
 use Rattle.writer.proofs.Badness.{bad_exactly}
 use Rattle.writer.proofs.Exactly.{zero-exactly}
 use Rattle.writer.proofs.Sorting.{is_whole}
@@ -80,7 +79,7 @@ module _ (s : List ℕ) (b : AreBytes s) where
 module _ (s : List ℕ) (b : AreBytes s) (e : paper (read_of s).answer ≡ answer 0 0 0) where
   rewritten : block_of (read_of s).version (read_of s).plan ≡ take (read_of s).used s
   rewritten =
-      let w = (exactly s Read.Done).0 e in
+      let w = (exactly s (Ok tt)).0 e in
       let d = is-done s w.0 w.1.all w.2 in
       ap (λ (x : Block). block_of x.version x.plan) d ∙ again s b w.0 w.1.all w.2 ∙ sym (ap (λ (x : Block). take x.used s) d)
 
@@ -90,12 +89,12 @@ module _ (s : List ℕ) (b : AreBytes s) (e : paper (read_of s).answer ≡ answe
 
   known : Known (read_of s).version
   known =
-      let w = (exactly s Read.Done).0 e in
+      let w = (exactly s (Ok tt)).0 e in
       subst Known (sym (ap (λ (x : Block). x.version) (is-done s w.0 w.1.all w.2))) w.0.mark.1
 
   good : bad_list (read_of s).plan ≡ false
   good =
-      let w = (exactly s Read.Done).0 e in
+      let w = (exactly s (Ok tt)).0 e in
       ap (λ (x : Block). bad_list x.plan) (is-done s w.0 w.1.all w.2)
       ∙ ap (any bad_op) (ops-of (byte_at s 5) w.1.ops)
       ∙ (ops-written (bytes_drop (head_of (version_of s)) s b) w.1.all).good
@@ -105,11 +104,11 @@ module _ (s : List ℕ) (b : AreBytes s) (e : paper (read_of s).answer ≡ answe
 
   module _ (no-retired : ¬ RetiredList (read_of s).plan) (old : List ℕ) (room : (read_of s).used ≤ length old) where
     -- it is written, with the length that was read
-    pub written-again : writing_of (read_of s).plan (read_of s).version (length old) ≡ Done (read_of s).used
+    pub written-again : writing_of (read_of s).plan (read_of s).version (length old) ≡ Ok (read_of s).used
     written-again =
         let p = (read_of s).plan in
         let v = (read_of s).version in
-        is_whole p v (length old) ((zero-exactly p v (length old)).1 (lawful s e, known, (fails_exactly (bad_exactly p)).0 good, no-retired, omega (arith, long))) ∙ ap Done long
+        is_whole p v (length old) ((zero-exactly p v (length old)).1 (lawful s e, known, (fails_exactly (bad_exactly p)).0 good, no-retired, omega (arith, long))) ∙ ap Ok long
 
     -- the same block, and behind it the buffer as it was
     pub same_block : left_of (read_of s).plan (read_of s).version old ≡ take (read_of s).used s ++ drop (read_of s).used old

@@ -1,12 +1,13 @@
 -- "The run reports the count after its last op" (02, W4): it is what that op's own step reports of the channels that it finds.
 -- The ops before the last lead to the width and the channels that it finds.
+use Rattle.std.specs.Prelude.{Ok, Err}
 use Prim.Native.Nat.{ℕ}
 use mathlib.Core.Path.{◌≡◌, ap, subst, sym, ◌∙◌}
 use mathlib.Core.Bool.{Bool}
 use mathlib.Core.List.{List, [], ◌∷◌, ◌++◌}
 use Rattle.notation.specs.Choice.{when◌then◌else◌}
 use Rattle.channels.specs.Channels.{Channels, EquallyLong}
-use Rattle.channels.specs.declared.Stepping.TheVariants as Step
+use Rattle.channels.specs.Stepping.{unequal}
 use Rattle.channels.proofs.Lengths.{equal_exactly}
 use Rattle.counts.specs.Bad.{count_of, report_of}
 use Rattle.op.specs.Widths.{gives_of}
@@ -20,8 +21,7 @@ use Rattle.list.specs.declared.Plan.{Plan}
 use Rattle.run.specs.Refusals.{outcome_of, paper}
 use Rattle.run.specs.Report.{bad_after, reported_of}
 use Rattle.run.specs.Run.{ran_of, run_ops}
-use Rattle.run.specs.declared.Outcome.{Outcome}
-use Rattle.run.specs.declared.Outcome.TheVariants.{Done}
+use Rattle.run.specs.Refusals.{Outcome}
 use Rattle.run.proofs.Exactly.{zero-exactly}
 use Rattle.run.proofs.Leaving.{done}
 use Rattle.run.proofs.OpByOp.{one_after_another}
@@ -37,9 +37,9 @@ ops-even w (o ∷ os) s e = ops-even (gives_of o w) os (after_op o w s) (after-e
 -- of equally long channels an own step reports the count that it leaves
 own_count : (o : Op) (v : ℕ) (t : Channels) → EquallyLong t → count_of (gives_of o v) (after_op o v t) ≡ (own_step o v t).bad
 own_count o v t e =
-    ap (λ (b : Bool). (report_of (when b then Step.Done (gives_of o v) else Step.Unequal) (when b then after_op o v t else t)).bad) (sym ((equal_exactly t).1 e))
+    ap (λ (b : Bool). (report_of (when b then Ok (gives_of o v) else Err unequal) (when b then after_op o v t else t)).bad) (sym ((equal_exactly t).1 e))
 
-pub last_step : (p : Plan) (os : List Op) (o : Op) (v w : ℕ) (s : Channels) → ops_of p ≡ os ++ (o ∷ []) → Fits p.start os v → Done w ≡ outcome_of p s
+pub last_step : (p : Plan) (os : List Op) (o : Op) (v w : ℕ) (s : Channels) → ops_of p ≡ os ++ (o ∷ []) → Fits p.start os v → Ok w ≡ outcome_of p s
     → (reported_of p s).bad ≡ (own_step o v (run_ops p.start os s)).bad
 last_step p os o v w s split f d =
     let z = (zero-exactly p s w).0 (sym (ap paper d)) in
@@ -52,7 +52,7 @@ last_step p os o v w s split f d =
     ∙ own_count o v t (ops-even p.start os s z.1)
 
 -- "for an empty list the count in the starting channels"
-pub empty-list : (p : Plan) (w : ℕ) (s : Channels) → ops_of p ≡ [] → Done w ≡ outcome_of p s → (reported_of p s).bad ≡ count_of w s
+pub empty-list : (p : Plan) (w : ℕ) (s : Channels) → ops_of p ≡ [] → Ok w ≡ outcome_of p s → (reported_of p s).bad ≡ count_of w s
 empty-list p w s no-op d =
     ap (λ (q : Outcome). bad_after q (ran_of p s)) (sym d)
     ∙ ap (count_of w) (sym (done p s w d) ∙ ap (λ (xs : List Op). run_ops p.start xs s) no-op)

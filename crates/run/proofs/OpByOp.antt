@@ -1,5 +1,6 @@
 -- Running is op by op: a list that is one list after another runs as the one and then the other.
 -- By induction on the first list.
+use Rattle.std.specs.Prelude.{Ok}
 use Prim.Native.Nat.{ℕ}
 use mathlib.Core.Path.{ap, refl, subst, sym, ◌∙◌, ◌≡◌}
 use mathlib.Core.List.{◌++◌, List, [], ◌∷◌}
@@ -13,7 +14,6 @@ use Rattle.list.specs.Fits.{Fits, none, more}
 use Rattle.list.specs.declared.Plan.{Plan}
 use Rattle.run.specs.Refusals.{outcome_of}
 use Rattle.run.specs.Run.{ran_of, run_ops}
-use Rattle.run.specs.declared.Outcome.TheVariants.{Done}
 use Rattle.run.proofs.Leaving.{done}
 
 pub one_after_another : (xs ys : List Op) {w v : ℕ} (s : Channels) → Fits w xs v → run_ops w (xs ++ ys) s ≡ run_ops v ys (run_ops w xs s)
@@ -28,7 +28,7 @@ first-then_rest o os w s = refl
 
 -- of three lists that all run to the end, the third being the first and then the second
 pub joined-runs : (p q r : Plan) (s : Channels) (v w u : ℕ) → r.start ≡ p.start → ops_of r ≡ ops_of p ++ ops_of q → q.start ≡ v
-    → Done v ≡ outcome_of p s → Done w ≡ outcome_of q (ran_of p s) → Done u ≡ outcome_of r s → Fits p.start (ops_of p) v → ran_of r s ≡ ran_of q (ran_of p s)
+    → Ok v ≡ outcome_of p s → Ok w ≡ outcome_of q (ran_of p s) → Ok u ≡ outcome_of r s → Fits p.start (ops_of p) v → ran_of r s ≡ ran_of q (ran_of p s)
 joined-runs p q r s v w u a b c d e f g =
     sym (done r s u f)
     ∙ ap (λ (k : ℕ). run_ops k (ops_of r) s) a

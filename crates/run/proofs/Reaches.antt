@@ -1,5 +1,6 @@
 -- Demand 3 on runs: "If it passes, its ops are all carried and the three lent channels have equal length, the run reaches the end and reports
 -- the width the check foretold; then the channels within that width depend only on the plan and on the channels within the starting width."
+use Rattle.std.specs.Prelude.{Ok}
 use Prim.Native.Nat.{ℕ}
 use mathlib.Core.Path.{sym, ◌≡◌}
 use Rattle.notation.specs.Answers.{answer}
@@ -13,7 +14,6 @@ use Rattle.judge.specs.Carried.{AllCarried}
 use Rattle.run.specs.Reach.{Agree}
 use Rattle.run.specs.Refusals.{outcome_of, paper}
 use Rattle.run.specs.Run.{ran_of}
-use Rattle.run.specs.declared.Outcome.TheVariants.{Done}
 use Rattle.run.proofs.Answered.{is-given}
 use Rattle.run.proofs.Depends.{ops-agree}
 use Rattle.run.proofs.Exactly.{zero-exactly}
@@ -28,8 +28,8 @@ module _ (p : Plan) (w : ℕ) (passes : Check.paper (check_of p) ≡ answer 0 0 
   pub depends-within : (s t : Channels) → EquallyLong s → EquallyLong t → Agree p.start s t → Agree w (ran_of p s) (ran_of p t)
   depends-within s t e f h =
       let l = (passes-exactly p w).0 passes in
-      let on-s = is-given p s (Done w) (l.0, e, l.1, carried) in
-      let on-t = is-given p t (Done w) (l.0, f, l.1, carried) in
+      let on-s = is-given p s (Ok w) (l.0, e, l.1, carried) in
+      let on-t = is-given p t (Ok w) (l.0, f, l.1, carried) in
       rw (← done p s w (sym on-s), ← done p t w (sym on-t)) (ops-agree s t l.1 e f h)
 
 -- a refused run leaves all three channels as they were

@@ -1,5 +1,6 @@
 -- What a run reports: the count within the width that it answers, which is 0 where it is refused.
 -- By the cases of the outcome; within width 0 there is no channel.
+use Rattle.std.specs.Prelude.{Ok, Err}
 use Prim.Native.Nat.{ℕ}
 use mathlib.Core.Path.{◌≡◌, ap, refl, ◌∙◌}
 use Rattle.notation.specs.declared.Answer.{Answer}
@@ -9,16 +10,16 @@ use Rattle.list.specs.declared.Plan.{Plan}
 use Rattle.run.specs.Refusals.{outcome_of, paper}
 use Rattle.run.specs.Report.{bad_after, reported_of}
 use Rattle.run.specs.Run.{ran_of}
-use Rattle.run.specs.declared.Outcome.{Outcome}
-use Rattle.run.specs.declared.Outcome.TheVariants.{Done, Malformed, Unequal, Misfit, NotCarried}
+use Rattle.run.specs.Refusals.{Outcome}
+use Rattle.run.specs.declared.RunError.TheVariants.{Malformed, Unequal, Misfit, NotCarried}
 use Rattle.run.specs.declared.Ran.{Ran}
 
 pub within-width : (o : Outcome) (left : Channels) → count_of (paper o).width left ≡ bad_after o left
-within-width (Done w) left = refl
-within-width Malformed left = refl
-within-width Unequal left = refl
-within-width (Misfit i) left = refl
-within-width (NotCarried i) left = refl
+within-width (Ok w) left = refl
+within-width (Err Malformed) left = refl
+within-width (Err Unequal) left = refl
+within-width (Err (Misfit i)) left = refl
+within-width (Err (NotCarried i)) left = refl
 
 abbrev ran : Outcome → ℕ → Ran
 ran q k = record { outcome = q; bad = k }

@@ -1,22 +1,18 @@
 -- "The run reports the count after its last op, and for an empty list the count in the starting channels. .. A refused run .. reports 0." (02, W4).
 -- Definitions only.
-use Rattle.std.specs.Prelude.{ℕ}
+use Rattle.std.specs.Prelude.{ℕ, Ok, Err}
 use Rattle.channels.specs.Channels.{Channels}
 use Rattle.counts.specs.Bad.{count_of}
 use Rattle.list.specs.declared.Plan.{Plan}
 use Rattle.run.specs.Refusals.{outcome_of}
 use Rattle.run.specs.Run.{ran_of}
-use Rattle.run.specs.declared.Outcome.{Outcome}
-use Rattle.run.specs.declared.Outcome.TheVariants.{Done, Malformed, Unequal, Misfit, NotCarried}
+use Rattle.run.specs.Refusals.{Outcome}
 use Rattle.run.specs.declared.Ran.{Ran}
 
 -- in the channels left, over the end width
 abbrev pub bad_after : Outcome → Channels → ℕ
-bad_after (Done w) left = count_of w left
-bad_after Malformed left = 0
-bad_after Unequal left = 0
-bad_after (Misfit i) left = 0
-bad_after (NotCarried i) left = 0
+bad_after (Ok w) left = count_of w left
+bad_after (Err e) left = 0
 
 abbrev pub reported_of : Plan → Channels → Ran
 reported_of p s = record { outcome = outcome_of p s; bad = bad_after (outcome_of p s) (ran_of p s) }

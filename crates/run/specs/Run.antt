@@ -1,5 +1,5 @@
 -- "A run is always lent three channels and applies its ops in list order." (01, Widths). Definitions only.
-use Rattle.std.specs.Prelude.{ℕ, List, [], ◌∷◌}
+use Rattle.std.specs.Prelude.{ℕ, List, [], ◌∷◌, Ok, Err}
 use Rattle.channels.specs.Channels.{Channels}
 use Rattle.op.specs.Widths.{gives_of}
 use Rattle.op.specs.declared.Op.{Op}
@@ -7,8 +7,7 @@ use Rattle.apply.specs.Apply.{after_op}
 use Rattle.list.specs.Lists.{ops_of}
 use Rattle.list.specs.declared.Plan.{Plan}
 use Rattle.run.specs.Refusals.{outcome_of}
-use Rattle.run.specs.declared.Outcome.{Outcome}
-use Rattle.run.specs.declared.Outcome.TheVariants.{Done, Malformed, Unequal, Misfit, NotCarried}
+use Rattle.run.specs.Refusals.{Outcome}
 
 -- the ops in list order, entered at width w
 abbrev pub run_ops : ℕ → List Op → Channels → Channels
@@ -17,11 +16,8 @@ run_ops w (o ∷ os) s = run_ops (gives_of o w) os (after_op o w s)
 
 -- "no buffer changed" where a run is refused
 abbrev pub if_done : Outcome → Channels → Channels → Channels
-if_done (Done w) ran s = ran
-if_done Malformed ran s = s
-if_done Unequal ran s = s
-if_done (Misfit i) ran s = s
-if_done (NotCarried i) ran s = s
+if_done (Ok w) ran s = ran
+if_done (Err e) ran s = s
 
 -- the channels after a run
 abbrev pub ran_of : Plan → Channels → Channels

@@ -1,4 +1,5 @@
 // Runs a list of ops on three lent channels.
+// Three slices, as `channels` says.
 #![tactic(auto)]
 
 mod applying;
@@ -13,11 +14,9 @@ ghost use Rattle.run.specs.Run.{ran_of};
 use list::Plan;
 pub use outcomes::paper;
 
-// What a run answers.
-#[derive(Clone, Copy)]
-pub enum Outcome {
-    // It reached the end, at this width.
-    Done { width: u8 },
+// For what a run is refused.
+#[derive(Clone, Copy, Debug, PartialEq, Eq)]
+pub enum RunError {
     // Refusal 10: the start width is not 1 or 3, the count is above 32, or the end width is false.
     Malformed,
     // Refusal 4: the lent lengths are unequal.
@@ -28,10 +27,10 @@ pub enum Outcome {
     NotCarried { position: usize },
 }
 
-// What a run answers, and how many samples it left bad.
-#[derive(Clone, Copy)]
+// The width that a run ended at, or its refusal; and beside it, as `Stepped` has it, how many samples it left bad, 0 where it is refused.
+#[derive(Clone, Copy, Debug, PartialEq, Eq)]
 pub struct Ran {
-    pub outcome: Outcome,
+    pub outcome: Result<u8, RunError>,
     pub bad: u64,
 }
 
@@ -41,7 +40,6 @@ pub fn run(plan: Plan, a: &mut [f32], b: &mut [f32], c: &mut [f32]) -> Ran
     ensures c_after { channels a.new b.new c.new ≡ ran_of plan (channels a.old b.old c.old) }
 {
     let outcome = running::run_samples(plan, a, b, c);
-    let answer = paper(outcome);
-    let bad = counts::count(answer.width, a, b, c);
+    let bad = counts::count(outcome.unwrap_or(0), a, b, c);
     Ran { outcome, bad }
 }

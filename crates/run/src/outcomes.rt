@@ -2,69 +2,32 @@
 ghost use Rattle.std.specs.Prelude.{◌≡◌};
 ghost use Rattle.run.specs.Refusals.{paper, outcome_by};
 
-use crate::Outcome;
-use judge::Judgement;
+use crate::RunError;
+use judge::JudgeError;
 use notation::Answer;
 
 // The paper's answer.
-pub fn paper(outcome: Outcome) -> Answer
+pub fn paper(outcome: Result<u8, RunError>) -> Answer
     ensures { result ≡ paper outcome }
 {
     match outcome {
-        Outcome::Done { width } => Answer {
-            number: 0,
-            position: 0,
-            width,
-        },
-        Outcome::Malformed => Answer {
-            number: 10,
-            position: 0,
-            width: 0,
-        },
-        Outcome::Unequal => Answer {
-            number: 4,
-            position: 0,
-            width: 0,
-        },
-        Outcome::Misfit { position } => Answer {
-            number: 5,
-            position,
-            width: 0,
-        },
-        Outcome::NotCarried { position } => Answer {
-            number: 6,
-            position,
-            width: 0,
-        },
+        Ok(width) => Answer::done(width),
+        Err(RunError::Malformed) => Answer::refused(10),
+        Err(RunError::Unequal) => Answer::refused(4),
+        Err(RunError::Misfit { position }) => Answer::refused_at(5, position),
+        Err(RunError::NotCarried { position }) => Answer::refused_at(6, position),
     }
 }
 
 // 10 comes before the lengths, 5 and 6 after them.
-pub(crate) fn outcome_by(judgement: Judgement, same: bool) -> Outcome
+pub(crate) fn outcome_by(judgement: Result<u8, JudgeError>, same: bool) -> Result<u8, RunError>
     ensures { result ≡ outcome_by judgement same }
 {
     match judgement {
-        Judgement::Malformed => Outcome::Malformed,
-        Judgement::Misfit { position } => {
-            if same {
-                Outcome::Misfit { position }
-            } else {
-                Outcome::Unequal
-            }
-        }
-        Judgement::NotCarried { position } => {
-            if same {
-                Outcome::NotCarried { position }
-            } else {
-                Outcome::Unequal
-            }
-        }
-        Judgement::Ready { width } => {
-            if same {
-                Outcome::Done { width }
-            } else {
-                Outcome::Unequal
-            }
-        }
+        Err(JudgeError::Malformed) => Err(RunError::Malformed),
+        _ if !same => Err(RunError::Unequal),
+        Err(JudgeError::Misfit { position }) => Err(RunError::Misfit { position }),
+        Err(JudgeError::NotCarried { position }) => Err(RunError::NotCarried { position }),
+        Ok(width) => Ok(width),
     }
 }

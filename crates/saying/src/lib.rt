@@ -2,7 +2,7 @@
 // own status stays 0.
 #![tactic(auto)]
 
-ghost use Rattle.std.specs.Prelude.{◌≤◌, IfOk, length};
+ghost use Rattle.std.specs.Prelude.{◌≡◌, ◌≤◌, IfOk, length};
 
 use std::fs::OpenOptions;
 use std::io::{Read, Write};
@@ -15,10 +15,10 @@ const STATUS: &str = "/proc/self/fd/3";
 pub fn least(a: usize, b: usize) -> usize
     ensures { (result ≤ a) × (result ≤ b) }
 {
-    if a < b { a } else { b }
+    a.min(b)
 }
 
-// Writes the bytes between two places, those of them that there are.
+// Writes the bytes between two places, those of them that there are: no slice, since a place may lie behind the end.
 pub fn write_part(out: &impl Print, bytes: &[u8], from: usize, to: usize) -> io::Result<()> {
     let end = least(to, bytes.len());
     let start = least(from, end);
@@ -51,7 +51,7 @@ fn mark(rt: &impl Files) -> io::Result<()> {
     status.write_all(b"1")
 }
 
-// How a refusal begins. Where descriptor 3 isn't open, no byte is put there.
+// How a refusal begins. The program is told by its name: a struct of the runtime and a name would be made at each refusal. Where descriptor 3 isn't open, no byte is put there.
 pub fn begin(rt: &(impl Eprint + Files), program: &str) -> io::Result<()> {
     let _ = mark(rt);
     eprint!(rt; "{program}: ")
@@ -63,38 +63,35 @@ pub fn refuse(rt: &(impl Eprint + Files), program: &str, words: &str) -> io::Res
     eprintln!(rt; "{words}")
 }
 
-fn of_planning(number: u64) -> &'static str {
+// The same, where nothing comes of it.
+pub fn refused<T>(rt: &(impl Eprint + Files), program: &str, words: &str) -> io::Result<Option<T>>
+    ensures { IfOk result (λ o. o ≡ None) }
+{
+    refuse(rt, program, words)?;
+    Ok(None)
+}
+
+// What a refusal's number says, in 01's words. By number: planmake has its refusals from the C door, and no error of ours.
+fn words_of(number: u64) -> &'static str {
     match number {
         1 => ": a side is an ICC profile",
         2 => ": a coordinate or g lies outside its range",
         3 => ": the source is Unknown, or the target Xyb or Unknown",
+        4 => ": lengths are unequal",
+        5 => ": an op needs another width",
+        6 => ": an op is not carried",
+        7 => ": the block ends early",
+        8 => ": wrong mark or version",
+        9 => ": unknown op kind or bad field",
+        10 => ": start width not 1 or 3, count above 32, or a false end width",
+        11 => ": no run is open",
+        12 => ": the buffer is too short",
         15 => ": the Unknown curve is retired",
         _ => "",
     }
 }
 
-fn of_a_block(number: u64) -> &'static str {
-    match number {
-        7 => ": the block ends early",
-        8 => ": wrong mark or version",
-        9 => ": unknown op kind or bad field",
-        10 => ": start width not 1 or 3, count above 32, or a false end width",
-        12 => ": the buffer is too short",
-        _ => "",
-    }
-}
-
-fn of_a_run(number: u64) -> &'static str {
-    match number {
-        4 => ": lengths are unequal",
-        5 => ": an op needs another width",
-        6 => ": an op is not carried",
-        11 => ": no run is open",
-        _ => "",
-    }
-}
-
-// A refusal by number, with 01's words, and its position where that says more.
+// A refusal by number, and its position where that says more.
 pub fn refuse_by(
     rt: &(impl Eprint + Files),
     program: &str,
@@ -106,8 +103,6 @@ pub fn refuse_by(
     if (number == 5) | (number == 6) {
         eprint!(rt; " at {position}")?;
     }
-    let planning = of_planning(number);
-    let block = of_a_block(number);
-    let run = of_a_run(number);
-    eprintln!(rt; "{planning}{block}{run}")
+    let words = words_of(number);
+    eprintln!(rt; "{words}")
 }

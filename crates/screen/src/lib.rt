@@ -5,31 +5,16 @@ ghost use Rattle.std.specs.Prelude.{◌≡◌};
 ghost use Rattle.screen.specs.Screen.{screen_byte};
 ghost use Rattle.screen.specs.Showing.{paper, showing_of, shown_of};
 
+use channels::Unequal;
 use notation::Answer;
 
-// What the conversion of a slice of samples answers.
-#[derive(Clone, Copy)]
-pub enum Showing {
-    Done,
-    // Refusal 4: there are not as many bytes as samples, and nothing was changed.
-    Unequal,
-}
-
-// The paper's answer.
-pub fn paper(showing: Showing) -> Answer
+// The paper's answer to what the conversion of a slice of samples answers.
+pub fn paper(showing: Result<(), Unequal>) -> Answer
     ensures { result ≡ paper showing }
 {
     match showing {
-        Showing::Done => Answer {
-            number: 0,
-            position: 0,
-            width: 0,
-        },
-        Showing::Unequal => Answer {
-            number: 4,
-            position: 0,
-            width: 0,
-        },
+        Ok(()) => Answer::done(0),
+        Err(Unequal) => Answer::refused(4),
     }
 }
 
@@ -37,7 +22,7 @@ pub fn screen_byte(sample: f32) -> u8
     ensures { result ≡ screen_byte sample }
 {
     let clipped = steps::clipped(sample);
-    if clipped != clipped {
+    if clipped.is_nan() {
         return 0;
     }
     // The product is exact in f64. From 2^52 on an f64 has no fraction, so the sum is rounded to a whole number, a tie to the even one.
@@ -46,17 +31,16 @@ pub fn screen_byte(sample: f32) -> u8
     (f64::to_bits(sum) - 0x4330_0000_0000_0000) as u8
 }
 
-pub fn screen_bytes(samples: &[f32], bytes: &mut [u8]) -> Showing
+// Refused where there are not as many bytes as samples.
+pub fn screen_bytes(samples: &[f32], bytes: &mut [u8]) -> Result<(), Unequal>
     ensures value { result ≡ showing_of samples.now bytes.old }
     ensures bytes_after { bytes.new ≡ shown_of samples.now bytes.old }
 {
     if samples.len() != bytes.len() {
-        return Showing::Unequal;
+        return Err(Unequal);
     }
-    let mut i: usize = 0;
-    while i < bytes.len() {
+    for i in 0..bytes.len() {
         bytes[i] = screen_byte(samples[i]);
-        i += 1;
     }
-    Showing::Done
+    Ok(())
 }

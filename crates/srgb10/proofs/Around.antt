@@ -10,7 +10,7 @@ use Rattle.binary32.proofs.Size.{split_le}
 use Rattle.srgb10.specs.Codes.{level_of, apart, Nearest}
 use Rattle.srgb10.proofs.Levels.{first-level, last_level, levels_rise}
 
-level-le : (c d : ℕ) → c ≤ d → d ≤ 1023 → level_of c ≤ level_of d
+pub level-le : (c d : ℕ) → c ≤ d → d ≤ 1023 → level_of c ≤ level_of d
 level-le c d h k = go (eq-or-lt_of_le h)
   where
     go : (c ≡ d) ⊎ (c < d) → level_of c ≤ level_of d

@@ -15,28 +15,20 @@ pub fn level(code: u16) -> u16
     ensures value { result ≡ level_of code }
 {
     let levels = table::entries();
-    table::entry(&levels, code)
+    levels.get(code as usize).copied().unwrap_or(0)
 }
 
-// The code whose entry is nearest, the lower one on a tie: a range of codes is halved, between whose ends' entries the level lies.
+// The code whose entry is nearest, the lower one on a tie: the level lies between two neighbours' entries.
 pub fn code(level: u16) -> u16
     ensures nearest { Nearest level result }
     ensures value { result ≡ code_of level }
 {
     let levels = table::entries();
-    let mut lo: u16 = 0;
-    let mut hi: u16 = 1023;
-    while hi - lo > 1 {
-        let mid = (lo + hi) / 2;
-        if table::entry(&levels, mid) <= level {
-            lo = mid;
-        } else {
-            hi = mid;
-        }
-    }
-    if level - table::entry(&levels, lo) <= table::entry(&levels, hi) - level {
-        lo
+    let hi = levels.partition_point(|entry| *entry <= level).min(1023);
+    let lo = hi - 1;
+    if level - levels[lo] <= levels[hi] - level {
+        lo as u16
     } else {
-        hi
+        hi as u16
     }
 }

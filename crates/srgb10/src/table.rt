@@ -1,6 +1,4 @@
 // The table of levels.
-ghost use Rattle.std.specs.Prelude.{◌≡◌};
-ghost use Rattle.srgb10.specs.Codes.{level_of};
 ghost use Rattle.srgb10.specs.Curve.{Whole};
 
 const LEVELS: [u16; 1024] = [
@@ -82,15 +80,4 @@ pub fn entries() -> [u16; 1024]
     ensures { Whole result }
 {
     LEVELS
-}
-
-// A code's entry, and 0 where there is none.
-pub(crate) fn entry(levels: &[u16; 1024], code: u16) -> u16
-    requires { Whole levels.now }
-    ensures { result ≡ level_of code }
-{
-    if code > 1023 {
-        return 0;
-    }
-    levels[code as usize]
 }

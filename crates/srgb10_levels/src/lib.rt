@@ -9,50 +9,30 @@ ghost use Rattle.srgb10_levels.specs.Levels.{divided_level};
 
 use notation::Answer;
 
-// What the conversion of a slice of codes answers.
-#[derive(Clone, Copy)]
-pub enum Levelling {
-    Done,
-    // Refusal 4: there are not as many levels as codes, and nothing was written.
+// Why the conversion of a slice of codes is refused; nothing was written then.
+#[derive(Clone, Copy, Debug, PartialEq, Eq)]
+pub enum LevelError {
+    // Refusal 4: there are not as many levels as codes.
     Unequal,
-    // Refusal 14: a code is above 1023, and nothing was written.
+    // Refusal 14: a code is above 1023.
     NoCode,
 }
 
 // The paper's answer.
-pub fn paper(levelling: Levelling) -> Answer
+pub fn paper(levelling: Result<(), LevelError>) -> Answer
     ensures { result ≡ paper levelling }
 {
     match levelling {
-        Levelling::Done => Answer {
-            number: 0,
-            position: 0,
-            width: 0,
-        },
-        Levelling::Unequal => Answer {
-            number: 4,
-            position: 0,
-            width: 0,
-        },
-        Levelling::NoCode => Answer {
-            number: 14,
-            position: 0,
-            width: 0,
-        },
+        Ok(()) => Answer::done(0),
+        Err(LevelError::Unequal) => Answer::refused(4),
+        Err(LevelError::NoCode) => Answer::refused(14),
     }
 }
 
 fn any_above(codes: &[u16]) -> bool
     ensures { result ≡ any is_above codes.now }
 {
-    let mut i: usize = 0;
-    while i < codes.len() {
-        if codes[i] > 1023 {
-            return true;
-        }
-        i += 1;
-    }
-    false
+    codes.iter().any(|code| *code > 1023)
 }
 
 fn divided_level(table: &[u16; 1024], code: u16) -> f32
@@ -70,24 +50,22 @@ fn each_level(codes: &[u16], levels: &mut [f32])
     ensures { levels.new ≡ map divided_level codes.now }
 {
     let table = srgb10::entries();
-    let mut i: usize = 0;
-    while i < levels.len() {
-        levels[i] = divided_level(&table, codes[i]);
-        i += 1;
+    for (i, level) in levels.iter_mut().enumerate() {
+        *level = divided_level(&table, codes[i]);
     }
 }
 
 // Each code's level, divided by 65535.
-pub fn code_levels(codes: &[u16], levels: &mut [f32]) -> Levelling
+pub fn code_levels(codes: &[u16], levels: &mut [f32]) -> Result<(), LevelError>
     ensures value { result ≡ levelling_of codes.now levels.old }
     ensures levels_after { levels.new ≡ left_of codes.now levels.old }
 {
     if codes.len() != levels.len() {
-        return Levelling::Unequal;
+        return Err(LevelError::Unequal);
     }
     if any_above(codes) {
-        return Levelling::NoCode;
+        return Err(LevelError::NoCode);
     }
     each_level(codes, levels);
-    Levelling::Done
+    Ok(())
 }

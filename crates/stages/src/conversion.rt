@@ -12,75 +12,63 @@ use op::{Curve, Op};
 fn differs(current: EnumColourEncoding, target: EnumColourEncoding) -> bool
     ensures { result ≡ differs current target }
 {
-    let space = current.colour_space;
-    let target_space = target.colour_space;
-    let white_point = current.white_point;
-    let target_white_point = target.white_point;
-    let primaries = current.primaries;
-    let target_primaries = target.primaries;
-    !encoding::same_colour_space(space, target_space)
-        | !encoding::same_white_point(white_point, target_white_point)
-        | (encoding::same_colour_space(space, ColourSpace::Rgb)
-            & !encoding::same_primaries(primaries, target_primaries))
+    current.colour_space != target.colour_space
+        || current.white_point != target.white_point
+        || (current.colour_space == ColourSpace::Rgb
+            && !encoding::same_primaries(current.primaries, target.primaries))
 }
 
 fn limit_op(current: EnumColourEncoding) -> Op
     ensures { result ≡ limit_op current }
 {
-    let intent = current.rendering_intent;
-    if encoding::same_intent(intent, RenderingIntent::Perceptual) {
-        let luminances = own_luminances(current);
-        return Op::GamutMap {
-            luminances,
+    if current.rendering_intent == RenderingIntent::Perceptual {
+        Op::GamutMap {
+            luminances: own_luminances(current),
             saturation_factor: 0.3,
-        };
+        }
+    } else {
+        Op::Clip
     }
-    Op::Clip
 }
 
+#[tactic(auto, unfolding(ciexyz::specs::Xyz::to_xyz))]
 fn to_xyz_op(current: EnumColourEncoding) -> Op
     ensures { result ≡ to_xyz_op current }
 {
-    let space = current.colour_space;
-    let white_point = current.white_point;
-    let primaries = current.primaries;
-    if encoding::same_colour_space(space, ColourSpace::Grey) {
+    if current.colour_space == ColourSpace::Grey {
         // Yxy to XYZ
-        let illuminant = ciexyz::illuminant(white_point);
-        return Op::LumaToXyz { illuminant };
+        Op::LumaToXyz {
+            illuminant: ciexyz::illuminant(current.white_point),
+        }
+    } else {
+        // RGB to XYZ
+        Op::Matrix(ciexyz::primaries_to_xyz_mat(current.primaries, current.white_point))
     }
-    // RGB to XYZ
-    Op::Matrix(ciexyz::primaries_to_xyz_mat(primaries, white_point))
 }
 
 // Chromatic adaptation: XYZ to XYZ.
+#[tactic(auto, unfolding(ciexyz::specs::Xyz::adapt_of))]
 fn adapt(out: Plan, current: EnumColourEncoding, target: EnumColourEncoding) -> Plan
     ensures { result ≡ appended out (adapt_ops current target) }
 {
-    let intent = current.rendering_intent;
-    let white_point = current.white_point;
-    let target_white_point = target.white_point;
-    if encoding::same_intent(intent, RenderingIntent::Absolute) {
+    if current.rendering_intent == RenderingIntent::Absolute {
         return list::kept(out);
     }
-    list::push(
-        out,
-        Op::Matrix(ciexyz::adapt_mat(white_point, target_white_point)),
-    )
+    let mat = ciexyz::adapt_mat(current.white_point, target.white_point);
+    list::push(out, Op::Matrix(mat))
 }
 
+#[tactic(auto, unfolding(ciexyz::specs::Xyz::from_xyz))]
 fn from_xyz_op(target: EnumColourEncoding) -> Op
     ensures { result ≡ from_xyz_op target }
 {
-    let space = target.colour_space;
-    let white_point = target.white_point;
-    let primaries = target.primaries;
-    if encoding::same_colour_space(space, ColourSpace::Grey) {
+    if target.colour_space == ColourSpace::Grey {
         // XYZ to Yxy
-        return Op::XyzToLuma;
+        Op::XyzToLuma
+    } else {
+        // XYZ to RGB
+        Op::Matrix(ciexyz::xyz_to_primaries_mat(target.primaries, target.white_point))
     }
-    // XYZ to RGB
-    Op::Matrix(ciexyz::xyz_to_primaries_mat(primaries, white_point))
 }
 
 pub fn convert(out: Plan, current: EnumColourEncoding, target: EnumColourEncoding) -> Plan
@@ -102,15 +90,9 @@ pub fn converted(current: EnumColourEncoding, target: EnumColourEncoding) -> Enu
     if !differs(current, target) {
         return current;
     }
-    let colour_space = target.colour_space;
-    let white_point = target.white_point;
-    let primaries = target.primaries;
-    let rendering_intent = current.rendering_intent;
     EnumColourEncoding {
-        colour_space,
-        white_point,
-        primaries,
         tf: Curve::Linear,
-        rendering_intent,
+        rendering_intent: current.rendering_intent,
+        ..target
     }
 }

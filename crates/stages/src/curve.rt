@@ -12,12 +12,12 @@ use op::{Curve, Op};
 fn curve_intensity(target: EnumColourEncoding, settings: Settings) -> f32
     ensures { result ≡ curve_intensity target settings }
 {
-    let intensity_target = settings.intensity_target;
     if is_pq_to_hlg(target, settings) {
         // Skip inverse OOTF in transfer function conversion.
-        return 300.0;
+        300.0
+    } else {
+        settings.intensity_target
     }
-    intensity_target
 }
 
 pub fn target_curve(
@@ -28,20 +28,15 @@ pub fn target_curve(
 ) -> Plan
     ensures { result ≡ appended out (curve_ops current target settings) }
 {
-    let tf = target.tf;
-    if same::same_curve(tf, Curve::Linear) {
+    if target.tf == Curve::Linear {
         return list::kept(out);
     }
-    let hdr_params = hdr_params(
-        own_luminances(current),
-        curve_intensity(target, settings),
-        settings,
-    );
+    let intensity = curve_intensity(target, settings);
     list::push(
         out,
         Op::TransferFunction {
-            curve: tf,
-            hdr_params,
+            curve: target.tf,
+            hdr_params: hdr_params(own_luminances(current), intensity, settings),
             inverse: false,
         },
     )

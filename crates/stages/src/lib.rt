@@ -1,4 +1,5 @@
 // The stages of planning, after `with_builder` of src/convert.rs: each appends its ops to a list.
+// The encodings and the settings stay parameters, as the Rust has them: the contracts go by each.
 #![tactic(auto)]
 
 mod conversion;

@@ -7,6 +7,7 @@ use encoding::{EnumColourEncoding, Settings};
 use op::{HdrParams, Luminances};
 
 // Y of each primary: the Rust's `[mat[3], mat[4], mat[5]]`.
+#[tactic(auto, unfolding(crate::specs::Stages::luminances_of, ciexyz::specs::Xyz::to_xyz))]
 pub(crate) fn luminances_of(primaries: Primaries, white: WhitePoint) -> Luminances
     ensures { result ≡ luminances_of primaries white }
 {
@@ -22,9 +23,7 @@ pub(crate) fn luminances_of(primaries: Primaries, white: WhitePoint) -> Luminanc
 pub(crate) fn own_luminances(e: EnumColourEncoding) -> Luminances
     ensures { result ≡ own_luminances e }
 {
-    let primaries = e.primaries;
-    let white_point = e.white_point;
-    luminances_of(primaries, white_point)
+    luminances_of(e.primaries, e.white_point)
 }
 
 pub(crate) fn hdr_params(luminances: Luminances, intensity: f32, settings: Settings) -> HdrParams

@@ -11,46 +11,43 @@ use op::{Curve, HdrParams, Op};
 fn tone_map_op(current: EnumColourEncoding, params: HdrParams, display: f32, detect: bool) -> Op
     ensures { result ≡ tone_map_op current params display detect }
 {
-    let space = current.colour_space;
-    if encoding::same_colour_space(space, ColourSpace::Grey) {
-        return Op::ToneMapLumaRec2408 {
+    if current.colour_space == ColourSpace::Grey {
+        Op::ToneMapLumaRec2408 {
             hdr_params: params,
             target_display_luminance: display,
             detect_peak: detect,
-        };
-    }
-    Op::ToneMapRec2408 {
-        hdr_params: params,
-        target_display_luminance: display,
-        detect_peak: detect,
+        }
+    } else {
+        Op::ToneMapRec2408 {
+            hdr_params: params,
+            target_display_luminance: display,
+            detect_peak: detect,
+        }
     }
 }
 
 fn gamut_map(out: Plan, current: EnumColourEncoding, factor: f32) -> Plan
     ensures { result ≡ appended out (gamut_map_ops current factor) }
 {
-    let space = current.colour_space;
-    let intent = current.rendering_intent;
-    if encoding::same_colour_space(space, ColourSpace::Grey) {
+    if current.colour_space == ColourSpace::Grey {
         return list::kept(out);
     }
-    if encoding::same_intent(intent, RenderingIntent::Perceptual) {
-        let luminances = own_luminances(current);
-        return list::push(
-            out,
-            Op::GamutMap {
-                luminances,
-                saturation_factor: factor,
-            },
-        );
+    if current.rendering_intent != RenderingIntent::Perceptual {
+        return list::kept(out);
     }
-    list::kept(out)
+    list::push(
+        out,
+        Op::GamutMap {
+            luminances: own_luminances(current),
+            saturation_factor: factor,
+        },
+    )
 }
 
 fn is_tone_mapped(target: EnumColourEncoding, settings: Settings) -> bool
     ensures { result ≡ is_tone_mapped target settings }
 {
-    (settings.intensity_target > 255.0) & !encoding::is_hdr(target)
+    settings.intensity_target > 255.0 && !encoding::is_hdr(target)
 }
 
 pub fn tone_map(
@@ -75,14 +72,13 @@ pub fn tone_map(
 pub(crate) fn is_pq_to_hlg(target: EnumColourEncoding, settings: Settings) -> bool
     ensures { result ≡ is_pq_to_hlg target settings }
 {
-    let tf = target.tf;
-    settings.from_pq & same::same_curve(tf, Curve::Hlg)
+    settings.from_pq && target.tf == Curve::Hlg
 }
 
 fn near_thousand(intensity: f32) -> bool
     ensures { result ≡ near_thousand intensity }
 {
-    (999.0 <= intensity) & (intensity <= 1001.0)
+    999.0 <= intensity && intensity <= 1001.0
 }
 
 // Tonemap to peak 1000 nits before applying inverse OOTF.

@@ -1,20 +1,21 @@
 // The curves that are carried: TransferFunction Linear or Unknown.
+// Three slices, as `channels` says.
 ghost use Rattle.std.specs.Prelude.{◌≡◌};
 ghost use Rattle.channels.specs.Channels.{channels};
 ghost use Rattle.channels.specs.Stepping.{step_of};
 ghost use Rattle.counts.specs.Bad.{report_of};
 
-use channels::Stepping;
+use channels::Unequal;
 use counts::Stepped;
 
 // No effect.
-pub fn unchanged_samples(width: u8, a: &[f32], b: &[f32], c: &[f32]) -> Stepping
+pub fn unchanged_samples(width: u8, a: &[f32], b: &[f32], c: &[f32]) -> Result<u8, Unequal>
     ensures { result ≡ step_of width (channels a.now b.now c.now) }
 {
     if !channels::same_lengths(a.len(), b.len(), c.len()) {
-        return Stepping::Unequal;
+        return Err(Unequal);
     }
-    Stepping::Done { width }
+    Ok(width)
 }
 
 // Their own step.

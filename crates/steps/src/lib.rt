@@ -1,4 +1,5 @@
 // The steps of a run that are not XYB, after `ColorTransformOp::run` of src/convert.rs.
+// Each stands alone, as `clip_samples`, and with its report, as `clip`. Kept as pairs: a closure that is lent three channels is no plainer than the two calls.
 #![tactic(auto)]
 
 mod clipping;

@@ -1,23 +1,23 @@
 // Matrix: each triple of samples by `matmul3vec`.
+// Three slices, as `channels` says.
 ghost use Rattle.std.specs.Prelude.{◌≡◌};
 ghost use Rattle.ciexyz.specs.Matrix.{applied};
 ghost use Rattle.channels.specs.Channels.{channels, each, where_equal};
 ghost use Rattle.channels.specs.Stepping.{step_of};
 ghost use Rattle.counts.specs.Bad.{stepped_of};
 
-use channels::Stepping;
+use channels::Unequal;
 use ciexyz::{Mat3, Vec3};
 use counts::Stepped;
 
-pub fn matrix_samples(m: Mat3, a: &mut [f32], b: &mut [f32], c: &mut [f32]) -> Stepping
+pub fn matrix_samples(m: Mat3, a: &mut [f32], b: &mut [f32], c: &mut [f32]) -> Result<u8, Unequal>
     ensures value { result ≡ step_of 3 (channels a.old b.old c.old) }
     ensures c_after { channels a.new b.new c.new ≡ where_equal (each (applied m)) (channels a.old b.old c.old) }
 {
     if !channels::same_lengths(a.len(), b.len(), c.len()) {
-        return Stepping::Unequal;
+        return Err(Unequal);
     }
-    let mut i: usize = 0;
-    while i < a.len() {
+    for i in 0..a.len() {
         let sample = Vec3 {
             v0: a[i],
             v1: b[i],
@@ -27,9 +27,8 @@ pub fn matrix_samples(m: Mat3, a: &mut [f32], b: &mut [f32], c: &mut [f32]) -> S
         a[i] = result.v0;
         b[i] = result.v1;
         c[i] = result.v2;
-        i += 1;
     }
-    Stepping::Done { width: 3 }
+    Ok(3)
 }
 
 // Matrix's own step.

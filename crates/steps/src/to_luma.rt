@@ -1,27 +1,24 @@
 // XyzToLuma: from three channels of XYZ to one of luma.
+// Three slices, as `channels` says.
 ghost use Rattle.std.specs.Prelude.{◌≡◌};
 ghost use Rattle.channels.specs.Channels.{channels, where_equal};
 ghost use Rattle.channels.specs.Stepping.{step_of};
 ghost use Rattle.steps.specs.Samples.{luma_of_xyz};
 ghost use Rattle.counts.specs.Bad.{stepped_of};
 
-use channels::Stepping;
+use channels::Unequal;
 use counts::Stepped;
 
 // a takes b; b and c stay.
-pub fn xyz_to_luma_samples(a: &mut [f32], b: &[f32], c: &[f32]) -> Stepping
+pub fn xyz_to_luma_samples(a: &mut [f32], b: &[f32], c: &[f32]) -> Result<u8, Unequal>
     ensures value { result ≡ step_of 1 (channels a.old b.now c.now) }
     ensures c_after { channels a.new b.now c.now ≡ where_equal luma_of_xyz (channels a.old b.now c.now) }
 {
     if !channels::same_lengths(a.len(), b.len(), c.len()) {
-        return Stepping::Unequal;
+        return Err(Unequal);
     }
-    let mut i: usize = 0;
-    while i < a.len() {
-        a[i] = b[i];
-        i += 1;
-    }
-    Stepping::Done { width: 1 }
+    a.copy_from_slice(b);
+    Ok(1)
 }
 
 // XyzToLuma's own step.

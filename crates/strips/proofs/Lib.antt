@@ -7,5 +7,3 @@ pub mod Determined
 pub mod Keeping
 pub mod Strips
 pub mod Sums
--- what the code's arms know
-pub mod Arms

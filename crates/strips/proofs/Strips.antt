@@ -1,5 +1,6 @@
 -- With a list that can be run, the accepted strips, joined as they are left, are what a single run makes of them joined.
 -- By induction on the strips: ops run on joined channels as on each by itself.
+use Rattle.std.specs.Prelude.{Ok, Err}
 use Prim.Native.Nat.{ℕ}
 use mathlib.Core.Path.{◌≡◌, ap, refl, sym, ◌∙◌}
 use mathlib.Core.Bool.{Bool, true, false}
@@ -12,13 +13,12 @@ use Rattle.channels.proofs.Joining.{join-even}
 use Rattle.list.specs.Lists.{ops_of}
 use Rattle.list.specs.declared.Plan.{Plan}
 use Rattle.judge.specs.Judging.{judge_of}
-use Rattle.judge.specs.declared.Judgement.TheVariants.{Ready}
 use Rattle.run.specs.Run.{ran_of, run_ops}
 use Rattle.run.proofs.Joining.{ops-join, ops-none}
 use Rattle.strips.specs.Calls.{AllEquallyLong, accepted, accepted_left, after, after_all, gives, left_all, none, more}
 use Rattle.strips.specs.Machine.{after_by, answer_of, left_of}
-use Rattle.strips.specs.declared.Stripping.{Stripping}
-use Rattle.strips.specs.declared.Stripping.TheVariants.{Done, NotOpen, Unequal}
+use Rattle.strips.specs.Machine.{Stripping}
+use Rattle.strips.specs.declared.StripError.TheVariants.{NotOpen, Unequal}
 use Rattle.strips.specs.declared.State.{State}
 use Rattle.strips.proofs.Keeping.{ran}
 
@@ -45,9 +45,9 @@ all_left z (more {s} {ss} e es) =
 
 -- strips leave the run's list as it was
 plan-by : (z : State) (e : Stripping) (left : Channels) → (after_by z e left).plan ≡ z.plan
-plan-by z (Done w) left = refl
-plan-by z NotOpen left = refl
-plan-by z Unequal left = refl
+plan-by z (Ok w) left = refl
+plan-by z (Err NotOpen) left = refl
+plan-by z (Err Unequal) left = refl
 
 pub plan-stays : (z : State) (s : Channels) → (after z (gives s)).plan ≡ z.plan
 plan-stays z s = plan-by z (answer_of z s) (left_of z s)
@@ -56,7 +56,7 @@ pub stays : (z : State) (ss : List Channels) → (after_all z (map gives ss)).pl
 stays z [] = refl
 stays z (s ∷ ss) = stays (after z (gives s)) ss ∙ plan-stays z s
 
-module _ (p : Plan) (w : ℕ) (ready : judge_of p ≡ Ready w) where
+module _ (p : Plan) (w : ℕ) (ready : judge_of p ≡ Ok w) where
   abbrev ops : Channels → Channels
   ops = run_ops p.start (ops_of p)
 

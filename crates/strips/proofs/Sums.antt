@@ -1,5 +1,6 @@
 -- The sum that a run's state holds is the count of the accepted strips joined, held.
 -- By induction on the strips: each accepted one adds its own count, and what was held may be held again.
+use Rattle.std.specs.Prelude.{Ok, Err}
 use Prim.Native.Nat.{ℕ, ◌+◌, ◌≤◌}
 use mathlib.Core.Path.{◌≡◌, ap, refl, sym, subst, ◌∙◌}
 use mathlib.Core.Bool.{Bool, true, false}
@@ -13,29 +14,28 @@ use Rattle.counts.proofs.Held.{held-inside, held_more, held-within, small}
 use Rattle.counts.proofs.Joined.{within-joined, within_none}
 use Rattle.list.specs.declared.Plan.{Plan}
 use Rattle.judge.specs.Judging.{judge_of}
-use Rattle.judge.specs.declared.Judgement.{Judgement}
-use Rattle.judge.specs.declared.Judgement.TheVariants.{Ready}
+use Rattle.judge.specs.Judging.{Judgement}
 use Rattle.strips.specs.Calls.{accepted_left, after, after_all, gives}
 use Rattle.strips.specs.Machine.{after_by, answer_of, left_of, strip_by}
 use Rattle.strips.specs.declared.State.{State}
-use Rattle.strips.specs.declared.Stripping.{Stripping}
-use Rattle.strips.specs.declared.Stripping.TheVariants.{Done, NotOpen, Unequal}
+use Rattle.strips.specs.Machine.{Stripping}
+use Rattle.strips.specs.declared.StripError.TheVariants.{NotOpen, Unequal}
 use Rattle.strips.proofs.Strips.{plan-stays}
 
 -- a sum within 64 bits stays within them
 fits_by : (z : State) (e : Stripping) (left : Channels) → z.bad ≤ 0xffff_ffff_ffff_ffff → (after_by z e left).bad ≤ 0xffff_ffff_ffff_ffff
-fits_by z (Done w) left f = held-within (z.bad + count_of w left)
-fits_by z NotOpen left f = f
-fits_by z Unequal left f = f
+fits_by z (Ok w) left f = held-within (z.bad + count_of w left)
+fits_by z (Err NotOpen) left f = f
+fits_by z (Err Unequal) left f = f
 
 pub fits : (z : State) (ss : List Channels) → z.bad ≤ 0xffff_ffff_ffff_ffff → (after_all z (map gives ss)).bad ≤ 0xffff_ffff_ffff_ffff
 fits z [] f = f
 fits z (s ∷ ss) f = fits (after z (gives s)) ss (fits_by z (answer_of z s) (left_of z s) f)
 
-module _ (p : Plan) (w : ℕ) (ready : judge_of p ≡ Ready w) where
-  answers : (z : State) → z.plan ≡ p → (s : Channels) (b : Bool) → equally_long s ≡ b → answer_of z s ≡ (when b then Done w else Unequal)
+module _ (p : Plan) (w : ℕ) (ready : judge_of p ≡ Ok w) where
+  answers : (z : State) → z.plan ≡ p → (s : Channels) (b : Bool) → equally_long s ≡ b → answer_of z s ≡ (when b then Ok w else (Err Unequal))
   answers z h s b e =
-      ap (λ (j : Judgement). strip_by j (equally_long s)) (ap judge_of h ∙ ready) ∙ ap (λ (c : Bool). when c then Done w else Unequal) e
+      ap (λ (j : Judgement). strip_by j (equally_long s)) (ap judge_of h ∙ ready) ∙ ap (λ (c : Bool). when c then Ok w else (Err Unequal)) e
 
   pub total : (z : State) → z.plan ≡ p → (ss : List Channels) → held (after_all z (map gives ss)).bad ≡ held (z.bad + bad_within w (join_all (accepted_left z ss)))
   total z h [] =

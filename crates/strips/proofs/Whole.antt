@@ -1,5 +1,6 @@
 -- "Strips may be of any length, zero too, and three equally long channels, cut anywhere at the same places, must end with the samples and width
 -- that a single run gives" (02, W1); refused strips between them change nothing; and demand 3 over the accepted strips joined.
+use Rattle.std.specs.Prelude.{Ok}
 use Prim.Native.Nat.{ℕ}
 use mathlib.Core.Path.{◌≡◌, ap, refl, sym, ◌∙◌}
 use mathlib.Core.Bool.{true}
@@ -12,16 +13,14 @@ use Rattle.list.specs.Lists.{appended}
 use Rattle.list.specs.declared.Plan.{Plan}
 use Rattle.list.proofs.Exactly.{passes-exactly}
 use Rattle.judge.specs.Judging as Judging
-use Rattle.judge.specs.declared.Judgement.{Judgement}
-use Rattle.judge.specs.declared.Judgement.TheVariants.{Ready}
+use Rattle.judge.specs.Judging.{Judgement}
 use Rattle.judge.proofs.Exactly.{zero-exactly as judged_exactly}
 use Rattle.judge.proofs.Judged.{Words, is-given}
 use Rattle.run.specs.Reach.{Agree}
 use Rattle.run.specs.Refusals as Run
 use Rattle.run.specs.Report.{bad_after, reported_of}
 use Rattle.run.specs.Run.{ran_of}
-use Rattle.run.specs.declared.Outcome.{Outcome}
-use Rattle.run.specs.declared.Outcome.TheVariants as Ran
+use Rattle.run.specs.Refusals.{Outcome}
 use Rattle.run.proofs.Reaches.{depends-within as run_depends}
 use Rattle.strips.specs.Machine.{close_of, paper, strip_by, sum_by}
 use Rattle.strips.specs.Calls.{AllEquallyLong, accepted, accepted_left, after, after_all, closes, gives, left_all, opens, told}
@@ -31,14 +30,14 @@ use Rattle.strips.proofs.Sums.{summed}
 use Rattle.strips.proofs.Strips.{accepted-even, all_accepted, all_left, joined-run, stays}
 
 module _ (z : State) (p : Plan) (w : ℕ) (accepts : Judging.paper (Judging.judge_of p) ≡ answer 0 0 w) where
-  words : Words p (Ready w)
+  words : Words p (Ok w)
   words = (judged_exactly p w).0 accepts
 
   abbrev run-open : State
   run-open = record { plan = appended p []; bad = 0 }
 
   opened : after z (opens p) ≡ run-open
-  opened = rw (is-given p (Ready w) words)
+  opened = rw (is-given p (Ok w) words)
 
   -- the accepted strips joined end with the samples of a single run, wherever refused ones stand between them
   pub strips-run : (ss : List Channels) → join_all (accepted_left (after z (opens p)) ss) ≡ ran_of p (join_all (accepted ss))
@@ -49,8 +48,8 @@ module _ (z : State) (p : Plan) (w : ℕ) (accepts : Judging.paper (Judging.judg
   at-close : (ss : List Channels) → (after_all z (opens p ∷ map gives ss)).plan ≡ appended p []
   at-close ss = stays (after z (opens p)) ss ∙ ap (λ (y : State). y.plan) opened
 
-  reached : (ss : List Channels) → Run.outcome_of p (join_all (accepted ss)) ≡ Ran.Done w
-  reached ss = sym (reaches p w (is-given p (Ready w) words) (join_all (accepted ss)) (accepted-even ss))
+  reached : (ss : List Channels) → Run.outcome_of p (join_all (accepted ss)) ≡ Ok w
+  reached ss = sym (reaches p w (is-given p (Ok w) words) (join_all (accepted ss)) (accepted-even ss))
 
   -- and the close answers the width that it reports
   pub close-tells : (ss : List Channels) → told (after_all z (opens p ∷ map gives ss)) closes ≡ Run.paper (Run.outcome_of p (join_all (accepted ss)))

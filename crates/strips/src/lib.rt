@@ -1,68 +1,56 @@
 // A run by strips: it is opened with a list, given strips of three channels, and closed. The caller holds the state.
+// Three slices, as `channels` says.
 #![tactic(auto)]
 
-ghost use Rattle.std.specs.Prelude.{◌≡◌, true};
+ghost use Rattle.std.specs.Prelude.{◌≡◌, true, Err};
 ghost use Rattle.channels.specs.Channels.{channels};
 ghost use Rattle.judge.specs.Judging.{judge_of};
-ghost use Rattle.strips.specs.Machine.{paper, closed, open_of, strip_by, sum_by, strip_of, left_of, close_of};
+ghost use Rattle.strips.specs.Machine.{paper, closed, open_of, strip_by, strip_of, left_of, close_of};
 
-use judge::Judgement;
+use judge::JudgeError;
 use list::Plan;
 use notation::Answer;
-use run::Outcome;
 
 // A run is open with this list where it can be run; a list that cannot is no open run. So many samples of its strips went bad.
-#[derive(Clone, Copy)]
+#[derive(Clone, Copy, Debug)]
 pub struct State {
     pub plan: Plan,
     pub bad: u64,
 }
 
-// What a strip and a close answer.
-#[derive(Clone, Copy)]
-pub enum Stripping {
-    // The run ends at this width.
-    Done { width: u8 },
+// For what a strip or a close is refused.
+#[derive(Clone, Copy, Debug, PartialEq, Eq)]
+pub enum StripError {
     // Refusal 11: no run is open.
     NotOpen,
     // Refusal 4: the lent lengths are unequal; nothing was changed, and the run stays open.
     Unequal,
 }
 
-#[derive(Clone, Copy)]
+// What is judged of the list, and the state: with no open run where the opening is refused, as 02 says.
+#[derive(Clone, Copy, Debug)]
 pub struct Opened {
-    pub answer: Judgement,
+    pub answer: Result<u8, JudgeError>,
     pub state: State,
 }
 
-// Of a strip its own count of bad samples, of a close the sum.
-#[derive(Clone, Copy)]
+// The width that the run ends at, or a refusal; and beside it, as `Stepped` has it, of a strip its own count of bad samples, of a close the sum, 0 where it
+// is refused.
+#[derive(Clone, Copy, Debug)]
 pub struct Stripped {
-    pub answer: Stripping,
+    pub answer: Result<u8, StripError>,
     pub bad: u64,
     pub state: State,
 }
 
 // The paper's answer.
-pub fn paper(stripping: Stripping) -> Answer
+pub fn paper(stripping: Result<u8, StripError>) -> Answer
     ensures { result ≡ paper stripping }
 {
     match stripping {
-        Stripping::Done { width } => Answer {
-            number: 0,
-            position: 0,
-            width,
-        },
-        Stripping::NotOpen => Answer {
-            number: 11,
-            position: 0,
-            width: 0,
-        },
-        Stripping::Unequal => Answer {
-            number: 4,
-            position: 0,
-            width: 0,
-        },
+        Ok(width) => Answer::done(width),
+        Err(StripError::NotOpen) => Answer::refused(11),
+        Err(StripError::Unequal) => Answer::refused(4),
     }
 }
 
@@ -77,47 +65,37 @@ pub fn closed() -> State
 }
 
 // The width that a run with this list ends at.
-fn ending(plan: Plan) -> Stripping
+fn ending(plan: Plan) -> Result<u8, StripError>
     ensures { result ≡ strip_by (judge_of plan) true }
 {
-    let judgement = judge::judge(plan);
-    let Judgement::Ready { width: end } = judgement else {
-        return Stripping::NotOpen;
-    };
-    Stripping::Done { width: end }
+    match judge::judge(plan) {
+        Ok(width) => Ok(width),
+        Err(_) => Err(StripError::NotOpen),
+    }
 }
 
-fn a_strip(answer: Stripping, bad: u64, state: State) -> Stripped
-    ensures { result ≡ record { answer = answer; bad = «bad»; state = state } }
+// A refused strip: the run stays as it was.
+fn refused_as(e: StripError, state: State) -> Stripped
+    ensures { result ≡ record { answer = Err e; bad = 0; state = state } }
 {
-    Stripped { answer, bad, state }
-}
-
-fn an_opening(answer: Judgement, state: State) -> Opened
-    ensures { result ≡ record { answer = answer; state = state } }
-{
-    Opened { answer, state }
-}
-
-// The sum of the strips' counts, where a run is open.
-fn sum_of(answer: Stripping, bad: u64) -> u64
-    ensures { result ≡ sum_by answer «bad» }
-{
-    match answer {
-        Stripping::Done { width: _ } => bad,
-        Stripping::NotOpen => 0,
-        Stripping::Unequal => 0,
+    Stripped {
+        answer: Err(e),
+        bad: 0,
+        state,
     }
 }
 
 pub fn close(state: State) -> Stripped
     ensures { result ≡ close_of state }
 {
-    let plan = state.plan;
-    let answer = ending(plan);
-    let bad = sum_of(answer, state.bad);
-    let none = closed();
-    a_strip(answer, bad, none)
+    match ending(state.plan) {
+        Ok(width) => Stripped {
+            answer: Ok(width),
+            bad: state.bad,
+            state: closed(),
+        },
+        Err(e) => refused_as(e, closed()),
+    }
 }
 
 // What was open is closed first, whether the opening is refused or not.
@@ -125,14 +103,18 @@ pub fn open(state: State, plan: Plan) -> Opened
     ensures { result ≡ open_of state plan }
 {
     let before = close(state);
-    let none = before.state;
-    let kept = list::kept(plan);
-    let answer = judge::judge(plan);
-    match answer {
-        Judgement::Ready { width: _ } => an_opening(answer, State { plan: kept, bad: 0 }),
-        Judgement::Malformed => an_opening(answer, none),
-        Judgement::Misfit { position: _ } => an_opening(answer, none),
-        Judgement::NotCarried { position: _ } => an_opening(answer, none),
+    match judge::judge(plan) {
+        Ok(width) => Opened {
+            answer: Ok(width),
+            state: State {
+                plan: list::kept(plan),
+                bad: 0,
+            },
+        },
+        Err(e) => Opened {
+            answer: Err(e),
+            state: before.state,
+        },
     }
 }
 
@@ -142,15 +124,19 @@ pub fn strip(state: State, a: &mut [f32], b: &mut [f32], c: &mut [f32]) -> Strip
     ensures c_after { channels a.new b.new c.new ≡ left_of state (channels a.old b.old c.old) }
 {
     let plan = state.plan;
-    let ready = ending(plan);
-    let Stripping::Done { width } = ready else {
-        return a_strip(Stripping::NotOpen, 0, state);
-    };
+    if ending(plan).is_err() {
+        return refused_as(StripError::NotOpen, state);
+    }
     let ran = run::run(plan, a, b, c);
-    let outcome = ran.outcome;
-    let Outcome::Done { width: _ } = outcome else {
-        return a_strip(Stripping::Unequal, 0, state);
-    };
-    let sum = counts::sum(state.bad, ran.bad);
-    a_strip(Stripping::Done { width }, ran.bad, State { plan, bad: sum })
+    match ran.outcome {
+        Ok(width) => Stripped {
+            answer: Ok(width),
+            bad: ran.bad,
+            state: State {
+                plan,
+                bad: counts::sum(state.bad, ran.bad),
+            },
+        },
+        Err(_) => refused_as(StripError::Unequal, state),
+    }
 }

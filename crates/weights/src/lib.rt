@@ -5,7 +5,7 @@ ghost use Rattle.std.specs.Prelude.{◌≡◌};
 ghost use Rattle.weights.specs.Weights.{t871, bt709};
 
 // Red weighs kr/N, green kg/N and blue kb/N, with N = kr + kg + kb.
-#[derive(Clone, Copy)]
+#[derive(Clone, Copy, Debug, PartialEq, Eq)]
 pub struct Weights {
     pub kr: u16,
     pub kg: u16,
@@ -13,14 +13,14 @@ pub struct Weights {
 }
 
 // Cb, Y, Cr or R, G, B, in this order.
-#[derive(Clone, Copy)]
+#[derive(Clone, Copy, Debug, PartialEq, Eq)]
 pub struct Pixel {
     pub c0: u8,
     pub c1: u8,
     pub c2: u8,
 }
 
-// ITU-T T.871, in thousandths.
+// ITU-T T.871, in thousandths. Two functions, and no constants: the contract of `firmware::weights_of` goes by theirs.
 pub fn t871() -> Weights
     ensures { result ≡ t871 }
 {

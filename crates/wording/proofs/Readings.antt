@@ -1,13 +1,12 @@
 -- Texts and what they give: the numbers of a good one, the place of what is not understood in others, numbers as words, and where a place stands.
 -- Both sides of each are computed.
-use Rattle.std.proofs.Common.{◌≡◌, ℕ, ◌+◌, true, false, List, [], ◌∷◌, ◌++◌, ℤ, pos, negsuc, refl}
+use Rattle.std.proofs.Common.{◌≡◌, ℕ, ◌+◌, false, List, [], ◌∷◌, ◌++◌, ℤ, pos, negsuc, refl, Option, None, Some}
 use Rattle.notation.specs.Text.{ascii}
 use Rattle.wording.specs.Words.{number_in}
 use Rattle.wording.specs.Decimal.{signed, whole}
-use Rattle.wording.specs.Filling.{behind, ended, filled_of, line_ended, none, number_at, unset, word_taken}
+use Rattle.wording.specs.Filling.{behind, ended, filled_of, line_ended, number_at, word_taken}
 use Rattle.wording.specs.Wanted.{side_at}
 use Rattle.wording.specs.Places.{line_of, word_of}
-use Rattle.wording.specs.declared.decimal.Number.TheVariants.{Is, Not}
 
 -- a line, and those behind it
 infixr 5 ◌⏎◌
@@ -24,13 +23,19 @@ good =
     ⏎ ascii "detect_peak"
     ⏎ ascii "from_pq"
 
-abbrev numbers : List ℕ
-numbers =
-    0 ∷ 0 ∷ unset ∷ unset ∷ 0 ∷ unset ∷ unset ∷ unset ∷ unset ∷ unset ∷ unset ∷ 4 ∷ unset ∷ 1
-    ∷ 1 ∷ 3 ∷ 312_700 ∷ 329_000 ∷ 0 ∷ unset ∷ unset ∷ unset ∷ unset ∷ unset ∷ unset ∷ 0 ∷ 4_545_454 ∷ 0
-    ∷ 255 ∷ 0 ∷ 2 ∷ 1 ∷ 1 ∷ []
+abbrev is : ℕ → Option ℕ
+is n = Some n
 
-pub a_good_one : filled_of good ≡ record { numbers = numbers; next = none; inside = false; fault = false; place = 0 }
+abbrev no : Option ℕ
+no = None
+
+abbrev numbers : List (Option ℕ)
+numbers =
+    is 0 ∷ is 0 ∷ no ∷ no ∷ is 0 ∷ no ∷ no ∷ no ∷ no ∷ no ∷ no ∷ is 4 ∷ no ∷ is 1
+    ∷ is 1 ∷ is 3 ∷ is 312_700 ∷ is 329_000 ∷ is 0 ∷ no ∷ no ∷ no ∷ no ∷ no ∷ no ∷ is 0 ∷ is 4_545_454 ∷ is 0
+    ∷ is 255 ∷ is 0 ∷ is 2 ∷ is 1 ∷ is 1 ∷ []
+
+pub a_good_one : filled_of good ≡ record { numbers = numbers; next = None; inside = false; fault = None }
 unfolding filled_of ended line_ended word_taken behind number_at number_in
 a_good_one = refl
 
@@ -45,7 +50,7 @@ its_target = refl
 
 -- not understood, by this place
 abbrev Fault : List ℕ → ℕ → Type 0
-Fault s at = ((filled_of s).fault ≡ true) × ((filled_of s).place ≡ at)
+Fault s at = (filled_of s).fault ≡ Some at
 
 -- an unknown word; a line without its last word; a second source; a word too many; a text without a target
 pub faults :
@@ -55,15 +60,15 @@ pub faults :
     × Fault (ascii "source Icc" ⏎ ascii "version 1 2") 21
     × Fault (ascii "source Icc") 10
 unfolding filled_of ended line_ended word_taken behind number_at number_in
-faults = ((refl, refl), (refl, refl), (refl, refl), (refl, refl), (refl, refl))
+faults = (refl, refl, refl, refl, refl)
 
 pub as_words :
-    (whole (ascii "-329000") ≡ Is (0x8000_0000 + 329_000))
+    (whole (ascii "-329000") ≡ Some (0x8000_0000 + 329_000))
     × (signed (0x8000_0000 + 329_000) ≡ negsuc 328_999)
-    × (whole (ascii "999999999") ≡ Is 999_999_999)
-    × (whole (ascii "1000000000") ≡ Not)
-    × (whole (ascii "-") ≡ Not)
-    × (whole (ascii "1e3") ≡ Not)
+    × (whole (ascii "999999999") ≡ Some 999_999_999)
+    × (whole (ascii "1000000000") ≡ None)
+    × (whole (ascii "-") ≡ None)
+    × (whole (ascii "1e3") ≡ None)
 as_words = (refl, refl, refl, refl, refl, refl)
 
 -- the word Custom, and the end of its line

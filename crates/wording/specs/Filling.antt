@@ -1,39 +1,30 @@
 -- How words fill numbers, line by line. A line `source` or `target` has an encoding's fourteen numbers in their order: a word of its table for each, and whole
 -- numbers for points, in millionths, and for `g`. "Points are read only where Custom, `g` where the curve is a Gamma", and nothing behind `Icc`. The
 -- lines `intensity`, `min_nits` (in millionths) and `version` have one whole number, `detect_peak` and `from_pq` none. Definitions only.
-use Rattle.std.specs.Prelude.{ℕ, ◌+◌, ◌-◌, Bool, true, false, not, ◌&&◌, List, [], ◌∷◌, ◌++◌, length, replicate, ◌==◌, nat_le, nat_lt, slice_index, slice_index_or, slice_range, slice_set}
+use Rattle.std.specs.Prelude.{ℕ, ◌+◌, ◌-◌, Bool, true, false, not, ◌&&◌, List, [], ◌∷◌, ◌++◌, length, replicate, ◌==◌, nat_le, nat_lt, slice_get, slice_index_or, slice_range, slice_set, Option, None, Some, is_some, is_none}
 use Rattle.notation.specs.Choice.{when◌then◌else◌}
 use Rattle.wording.specs.Words.{number_in, spaces, whites, primaries, curves, intents, keys}
 use Rattle.wording.specs.Decimal.{whole}
-use Rattle.wording.specs.declared.decimal.Number.{Number}
-use Rattle.wording.specs.declared.decimal.Number.TheVariants.{Is, Not}
 use Rattle.wording.specs.declared.filling.Filling.{Filling}
 
--- the numbers: 0 to 13 the source's, 14 to 27 the target's, then intensity, min_nits, version, detect_peak and from_pq; this is one that no line gave
-abbrev pub unset : ℕ
-unset = 0xffff_ffff
-
--- and this is the place of none of them
-abbrev pub none : ℕ
-none = 33
-
+-- the numbers: 0 to 13 the source's, 14 to 27 the target's, then intensity, min_nits, version, detect_peak and from_pq; none is given, or waited for
 abbrev pub begun : Filling
-begun = record { numbers = replicate 33 unset; next = none; inside = false; fault = false; place = 0 }
+begun = record { numbers = replicate 33 None; next = None; inside = false; fault = None }
 
 -- what is not understood: the first word that is not, by the place of its first byte, or the place where a word is missing
 abbrev pub faulty : Filling → ℕ → Filling
-faulty m at = record { numbers = m.numbers; next = m.next; inside = m.inside; fault = true; place = at }
+faulty m at = record { numbers = m.numbers; next = m.next; inside = m.inside; fault = Some at }
 
 -- the place of a number in its encoding
 abbrev pub field_of : ℕ → ℕ
 field_of n = when nat_lt n 14 then n else n - 14
 
 -- a word of a table of so many
-abbrev pub named : ℕ → ℕ → Number
-named count n = when nat_lt n count then Is n else Not
+abbrev pub named : ℕ → ℕ → Option ℕ
+named count n = when nat_lt n count then Some n else None
 
 -- the number that a word stands for at a place
-unfoldable pub number_at : ℕ → List ℕ → Number
+unfoldable pub number_at : ℕ → List ℕ → Option ℕ
 number_at n w =
     when nat_le 28 n then whole w
     else when field_of n == 0 then named 5 (number_in spaces w)
@@ -53,50 +44,58 @@ stride_of field v =
     else 1
 
 -- the place of the number behind it; behind an intent, an ICC profile and each of the settings there is none
-unfoldable pub behind : ℕ → ℕ → ℕ
+unfoldable pub behind : ℕ → ℕ → Option ℕ
 behind n v =
-    when nat_le 28 n then none
-    else when field_of n == 13 then none
-    else when field_of n == 0 && v == 4 then none
-    else n + stride_of (field_of n) v
+    when nat_le 28 n then None
+    else when field_of n == 13 then None
+    else when field_of n == 0 && v == 4 then None
+    else Some (n + stride_of (field_of n) v)
 
 -- where a line's numbers begin
-abbrev pub start_of : ℕ → ℕ
-start_of key = slice_index_or (0 ∷ 14 ∷ 28 ∷ 29 ∷ 30 ∷ 31 ∷ 32 ∷ []) key none
+abbrev pub start_of : ℕ → Option ℕ
+start_of key = slice_get (0 ∷ 14 ∷ 28 ∷ 29 ∷ 30 ∷ 31 ∷ 32 ∷ []) key
 
 -- the first word of a line, which no line before had; `detect_peak` and `from_pq` are on where they stand
-abbrev pub key_taken : Filling → ℕ → ℕ → Filling
-key_taken m at key =
-    when nat_le 7 key then faulty m at
-    else when not (slice_index m.numbers (start_of key) == unset) then faulty m at
-    else when nat_le 5 key then record { numbers = slice_set m.numbers (start_of key) 1; next = none; inside = true; fault = false; place = 0 }
-    else record { numbers = m.numbers; next = start_of key; inside = true; fault = false; place = 0 }
+abbrev pub line_begun : Filling → ℕ → ℕ → Option ℕ → Filling
+line_begun m at key None = faulty m at
+line_begun m at key (Some start) =
+    when is_some (slice_index_or m.numbers start None) then faulty m at
+    else when nat_le 5 key then record { numbers = slice_set m.numbers start (Some 1); next = None; inside = true; fault = None }
+    else record { numbers = m.numbers; next = Some start; inside = true; fault = None }
 
-abbrev pub number_taken : Filling → ℕ → Number → Filling
-number_taken m at (Is v) = record { numbers = slice_set m.numbers m.next v; next = behind m.next v; inside = true; fault = false; place = 0 }
-number_taken m at Not = faulty m at
+abbrev pub key_taken : Filling → ℕ → ℕ → Filling
+key_taken m at key = line_begun m at key (start_of key)
+
+-- the number that stands at a place
+abbrev pub number_taken : Filling → ℕ → ℕ → Option ℕ → Filling
+number_taken m at place None = faulty m at
+number_taken m at place (Some v) = record { numbers = slice_set m.numbers place (Some v); next = behind place v; inside = true; fault = None }
+
+-- the word of a number that is waited for, or of none
+abbrev pub word_at : Filling → ℕ → List ℕ → Option ℕ → Filling
+word_at m at w None = faulty m at
+word_at m at w (Some place) = when nat_lt place 33 then number_taken m at place (number_at place w) else faulty m at
 
 -- a word that begins at this place
 unfoldable pub word_taken : Filling → ℕ → List ℕ → Filling
 word_taken m at w =
-    when m.fault then m
+    when is_some m.fault then m
     else when not m.inside then key_taken m at (number_in keys w)
-    else when nat_le none m.next then faulty m at
-    else number_taken m at (number_at m.next w)
+    else word_at m at w m.next
 
 -- the end of a line, at this place: no number is waited for
 unfoldable pub line_ended : Filling → ℕ → Filling
 line_ended m at =
-    when m.fault then m
-    else when nat_lt m.next none then faulty m at
-    else record { numbers = m.numbers; next = none; inside = false; fault = false; place = 0 }
+    when is_some m.fault then m
+    else when is_some m.next then faulty m at
+    else record { numbers = m.numbers; next = None; inside = false; fault = None }
 
 -- the end of the text: both encodings were given
 unfoldable pub ended : Filling → ℕ → Filling
 ended m at =
-    when m.fault then m
-    else when slice_index m.numbers 0 == unset then faulty m at
-    else when slice_index m.numbers 14 == unset then faulty m at
+    when is_some m.fault then m
+    else when is_none (slice_index_or m.numbers 0 None) then faulty m at
+    else when is_none (slice_index_or m.numbers 14 None) then faulty m at
     else m
 
 -- the bytes from one place up to another

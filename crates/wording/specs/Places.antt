@@ -1,16 +1,15 @@
 -- Where in a text a place stands: its line, and its word of that line, both counted from 1. Definitions only.
-use Rattle.std.specs.Prelude.{ℕ, ◌+◌, Bool, false, not, List, [], ◌∷◌, take, ◌==◌, nat_eq}
+use Rattle.std.specs.Prelude.{ℕ, ◌+◌, Bool, false, not, List, [], ◌∷◌, take, count_by, ◌==◌}
 use Rattle.notation.specs.Choice.{when◌then◌else◌}
 use Rattle.wording.specs.Filling.{is_blank}
 
--- how many line feeds there are, and so many before these bytes
-abbrev pub line_feeds : ℕ → List ℕ → ℕ
-line_feeds n [] = n
-line_feeds n (c ∷ s) = line_feeds (when nat_eq c 10 then n + 1 else n) s
+-- how many line feeds there are
+abbrev pub line_feeds : List ℕ → ℕ
+line_feeds s = count_by (λ c. c == 10) s
 
 -- 1 and the number of line feeds before the place
 unfoldable pub line_of : List ℕ → ℕ → ℕ
-line_of s place = line_feeds 0 (take place s) + 1
+line_of s place = line_feeds (take place s) + 1
 
 -- a byte behind so many words of a line: a word, a run of bytes above 32, begins where none goes on
 abbrev pub words_by : ℕ → Bool → ℕ → ℕ

@@ -1,15 +1,13 @@
 -- The words by which numbers are named, each table in the order of its numbers: those of an encoding's fourteen numbers, and those that begin a
 -- line. Definitions only.
-use Rattle.std.specs.Prelude.{ℕ, suc, Bool, true, false, ◌&&◌, List, [], ◌∷◌, ◌++◌, ◌==◌}
+use Rattle.std.specs.Prelude.{ℕ, suc, Bool, List, [], ◌∷◌, ◌++◌, ◌==◌}
+use Rattle.std.specs.Str.{bytes_eq}
 use Rattle.notation.specs.Choice.{when◌then◌else◌}
 use Rattle.notation.specs.Text.{ascii}
 
 -- whether two words are the same, byte by byte
 abbrev pub same_word : List ℕ → List ℕ → Bool
-same_word [] [] = true
-same_word [] (y ∷ ys) = false
-same_word (x ∷ xs) [] = false
-same_word (x ∷ xs) (y ∷ ys) = x == y && same_word xs ys
+same_word = bytes_eq
 
 -- a word's number in a table: how many words stand before it; of a word that is not there, how many stand in the table
 abbrev pub place_in : List (List ℕ) → List ℕ → ℕ

@@ -1,37 +1,30 @@
-// Words fill numbers, line by line.
+// Words fill numbers, line by line. Functions of the state and a place, as the specification has them.
 ghost use Rattle.std.specs.Prelude.{◌≡◌, ◌<◌, ◌≤◌, length};
 ghost use Rattle.wording.specs.Filling.{begun, faulty, field_of, named, number_at, stride_of, behind, start_of, key_taken, number_taken, word_taken, line_ended, ended, slice, up_to, filled_of};
 
-use crate::decimal::{Number, whole};
+use crate::decimal::whole;
 use crate::words::number_in;
-
-// A number that no line gave, and the place of no number.
-const UNSET: u32 = 0xffff_ffff;
-
-const NONE: usize = 33;
 
 #[derive(Clone, Copy)]
 pub struct Filling {
     // 0 to 13 the source's, 14 to 27 the target's, then intensity, min_nits, version, detect_peak and from_pq.
-    pub numbers: [u32; 33],
+    pub numbers: [Option<u32>; 33],
     // The place of the number that the next word stands for.
-    pub next: usize,
+    pub next: Option<usize>,
     // A line has begun.
     pub inside: bool,
-    // A word was not understood, which begins at this place; or one is missing there.
-    pub fault: bool,
-    pub place: usize,
+    // A word was not understood, which begins at this place; or one is missing there. No Result: the contracts say what the state is behind a fault.
+    pub fault: Option<usize>,
 }
 
 fn begun() -> Filling
     ensures { result ≡ begun }
 {
     Filling {
-        numbers: [UNSET; 33],
-        next: NONE,
+        numbers: [None; 33],
+        next: None,
         inside: false,
-        fault: false,
-        place: 0,
+        fault: None,
     }
 }
 
@@ -39,8 +32,7 @@ fn faulty(m: Filling, at: usize) -> Filling
     ensures { result ≡ faulty m at }
 {
     let mut out = m;
-    out.fault = true;
-    out.place = at;
+    out.fault = Some(at);
     out
 }
 
@@ -53,17 +45,19 @@ fn field_of(n: usize) -> usize
     n - 14
 }
 
-fn named(count: usize, n: usize) -> Number
+fn named(count: usize, n: usize) -> Option<u32>
     requires { count < 10 }
     ensures { result ≡ named count n }
 {
     if n < count {
-        return Number::Is(n as u32);
+        return Some(n as u32);
     }
-    Number::Not
+    None
 }
 
-fn number_at(n: usize, w: &[u8]) -> Number
+// Fields stay numbers: they are places in C's fourteen, and an enum would be turned back into one at each word.
+#[tactic(auto, unfolding(crate::specs::Filling::number_at))]
+fn number_at(n: usize, w: &[u8]) -> Option<u32>
     ensures { result ≡ number_at n w.now }
 {
     if 28 <= n {
@@ -113,84 +107,71 @@ fn stride(field: usize, v: u32) -> usize
     }
 }
 
-fn behind(n: usize, v: u32) -> usize
+#[tactic(auto, unfolding(crate::specs::Filling::behind))]
+fn behind(n: usize, v: u32) -> Option<usize>
     ensures { result ≡ behind n v }
 {
     if 28 <= n {
-        return NONE;
+        return None;
     }
     let field = field_of(n);
     if field == 13 {
-        return NONE;
+        return None;
     }
     if (field == 0) & (v == 4) {
-        return NONE;
+        return None;
     }
-    n + stride(field, v)
+    Some(n + stride(field, v))
 }
 
-fn start_of(key: usize) -> usize
+fn start_of(key: usize) -> Option<usize>
     ensures { result ≡ start_of key }
 {
-    match key {
-        0 => 0,
-        1 => 14,
-        2 => 28,
-        3 => 29,
-        4 => 30,
-        5 => 31,
-        6 => 32,
-        _ => NONE,
-    }
+    [0, 14, 28, 29, 30, 31, 32].get(key).copied()
 }
 
 fn key_taken(m: Filling, at: usize, key: usize) -> Filling
     ensures { result ≡ key_taken m at key }
 {
-    if 7 <= key {
+    let Some(start) = start_of(key) else {
         return faulty(m, at);
-    }
-    let start = start_of(key);
-    if m.numbers[start] != UNSET {
+    };
+    if m.numbers[start].is_some() {
         return faulty(m, at);
     }
     let mut out = m;
     out.inside = true;
-    out.fault = false;
-    out.place = 0;
+    out.fault = None;
     if 5 <= key {
-        out.numbers[start] = 1;
-        out.next = NONE;
+        out.numbers[start] = Some(1);
+        out.next = None;
         return out;
     }
-    out.next = start;
+    out.next = Some(start);
     out
 }
 
-fn number_taken(m: Filling, at: usize, n: Number) -> Filling
-    requires { m.next < 33 }
-    ensures { result ≡ number_taken m at n }
+fn number_taken(m: Filling, at: usize, place: usize, n: Option<u32>) -> Filling
+    requires { place < 33 }
+    ensures { result ≡ number_taken m at place n }
 {
-    match n {
-        Number::Is(v) => {
-            let next = m.next;
-            let mut out = m;
-            out.numbers[next] = v;
-            out.next = behind(next, v);
-            out.inside = true;
-            out.fault = false;
-            out.place = 0;
-            out
-        }
-        Number::Not => faulty(m, at),
-    }
+    let Some(v) = n else {
+        return faulty(m, at);
+    };
+    let mut out = m;
+    out.numbers[place] = Some(v);
+    out.next = behind(place, v);
+    out.inside = true;
+    out.fault = None;
+    out
 }
 
 // A word that begins at this place.
+#[tactic(auto, unfolding(crate::specs::Filling::word_taken))]
 fn word_taken(m: Filling, at: usize, w: &[u8]) -> Filling
     ensures { result ≡ word_taken m at w.now }
 {
-    if m.fault {
+    if m.fault.is_some() {
         return m;
     }
     if !m.inside {
@@ -200,41 +181,41 @@ fn word_taken(m: Filling, at: usize, w: &[u8]) -> Filling
         );
         return key_taken(m, at, key);
     }
-    let next = m.next;
-    if NONE <= next {
-        return faulty(m, at);
+    match m.next {
+        Some(place) if place < 33 => number_taken(m, at, place, number_at(place, w)),
+        _ => faulty(m, at),
     }
-    number_taken(m, at, number_at(next, w))
 }
 
 // A line that ends at this place.
+#[tactic(auto, unfolding(crate::specs::Filling::line_ended))]
 fn line_ended(m: Filling, at: usize) -> Filling
     ensures { result ≡ line_ended m at }
 {
-    if m.fault {
+    if m.fault.is_some() {
         return m;
     }
-    if m.next < NONE {
+    if m.next.is_some() {
         return faulty(m, at);
     }
     let mut out = m;
-    out.next = NONE;
+    out.next = None;
     out.inside = false;
-    out.fault = false;
-    out.place = 0;
+    out.fault = None;
     out
 }
 
+#[tactic(auto, unfolding(crate::specs::Filling::ended))]
 fn ended(m: Filling, at: usize) -> Filling
     ensures { result ≡ ended m at }
 {
-    if m.fault {
+    if m.fault.is_some() {
         return m;
     }
-    if m.numbers[0] == UNSET {
+    if m.numbers[0].is_none() {
         return faulty(m, at);
     }
-    if m.numbers[14] == UNSET {
+    if m.numbers[14].is_none() {
         return faulty(m, at);
     }
     m
@@ -252,25 +233,22 @@ fn up_to(m: Filling, s: &[u8], start: usize, end: usize) -> Filling
 }
 
 // The numbers that a text gives, or where it is not understood.
+#[tactic(auto, unfolding(crate::specs::Filling::filled_of))]
 pub fn filled(s: &[u8]) -> Filling
     ensures { result ≡ filled_of s.now }
 {
-    let n = s.len();
     let mut m = begun();
     let mut start: usize = 0;
-    let mut i: usize = 0;
-    while i < n {
-        let end = i;
-        let c = s[end];
-        i += 1;
-        if c <= b' ' {
-            m = up_to(m, s, start, end);
-            start = i;
-            if c == b'\n' {
-                m = line_ended(m, end);
+    for (i, c) in s.iter().enumerate() {
+        if *c <= b' ' {
+            m = up_to(m, s, start, i);
+            start = i + 1;
+            if *c == b'\n' {
+                m = line_ended(m, i);
             }
         }
     }
+    let n = s.len();
     m = up_to(m, s, start, n);
     ended(line_ended(m, n), n)
 }

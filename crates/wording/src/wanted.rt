@@ -1,23 +1,19 @@
 // What the numbers of a text are: two encodings, the settings and a version.
 ghost use Rattle.std.specs.Prelude.{◌≡◌, ◌≤◌};
-ghost use Rattle.wording.specs.Wanted.{side_at, given, float_of, floats_of, version_of, flag_by, flag_of};
+ghost use Rattle.wording.specs.Wanted.{side_at, float_of, floats_of, version_of, flag_by, flag_of};
 
 use crate::decimal::signed;
 use crate::filling::Filling;
+
+// What stands for an encoding's number that no word gave: C has no other word for it, and it stands in no table.
+const UNSET: u32 = 0xffff_ffff;
 
 // Fourteen numbers from a place on.
 fn side_at(m: Filling, from: usize) -> [i32; 14]
     requires { from ≤ 14 }
     ensures { result ≡ side_at from m.numbers }
 {
-    let numbers = m.numbers;
-    let mut out: [i32; 14] = [0; 14];
-    let mut i: usize = 0;
-    while i < 14 {
-        out[i] = signed(numbers[from + i]);
-        i += 1;
-    }
-    out
+    std::array::from_fn(|i| signed(m.numbers[from + i].unwrap_or(UNSET)))
 }
 
 pub fn source(m: Filling) -> [i32; 14]
@@ -32,16 +28,7 @@ pub fn target(m: Filling) -> [i32; 14]
     side_at(m, 14)
 }
 
-// A number of the settings, or what stands for it where no line gave it.
-fn given(n: u32, otherwise: u32) -> u32
-    ensures { result ≡ given n otherwise }
-{
-    if n == 0xffff_ffff {
-        return otherwise;
-    }
-    n
-}
-
+#[tactic(auto, unfolding(crate::specs::Wanted::float_of))]
 fn float(n: u32) -> f32
     ensures { result ≡ float_of n }
 {
@@ -66,8 +53,8 @@ pub fn floats(m: Filling) -> [f32; 14]
         bias,
         bias,
         bias,
-        float(given(m.numbers[28], 255)),
-        float(given(m.numbers[29], 0)) / 1000000.0,
+        float(m.numbers[28].unwrap_or(255)),
+        float(m.numbers[29].unwrap_or(0)) / 1000000.0,
     ]
 }
 
@@ -75,7 +62,7 @@ pub fn floats(m: Filling) -> [f32; 14]
 pub fn version(m: Filling) -> u16
     ensures { result ≡ version_of m.numbers }
 {
-    let n = given(m.numbers[30], 1);
+    let n = m.numbers[30].unwrap_or(1);
     if 0xffff < n {
         return 0;
     }
@@ -95,11 +82,8 @@ pub fn from_pq(m: Filling) -> u8
     flag(m.numbers[32])
 }
 
-fn flag(n: u32) -> u8
+fn flag(n: Option<u32>) -> u8
     ensures { result ≡ flag_by n }
 {
-    if n == 1 {
-        return 1;
-    }
-    0
+    u8::from(n == Some(1))
 }

@@ -3,8 +3,10 @@
 
 use ciexyz::{Mat3, Millionths, Primaries, Vec3, WhitePoint};
 use encoding::{ColourEncoding, ColourSpace, EnumColourEncoding, RenderingIntent, Settings};
+use join::Joined;
 use list::Plan;
 use op::Curve;
+use planner::Planned;
 use std::io;
 
 // The inverse opsin matrix and the bias that JPEG XL has where a picture names none.
@@ -57,94 +59,90 @@ fn print_plan(rt: &impl Print, title: &str, plan: Plan) -> io::Result<()> {
 // The list line by line, and the end width that it carries.
 fn show_plan(rt: &impl Print, title: &str, plan: Plan) -> io::Result<()> {
     print_plan(rt, title, plan)?;
-    let end = plan.end;
-    println!(rt; "end width carried: {end}")
+    println!(rt; "end width carried: {}", plan.end)
 }
 
-fn print_bytes(rt: &impl Print, red: u8, green: u8, blue: u8) -> io::Result<()> {
+fn print_bytes(rt: &impl Print, [red, green, blue]: [u8; 3]) -> io::Result<()> {
     println!(rt; "{red} {green} {blue}")
 }
 
 // A sample of each channel as bytes for a screen.
-fn print_sample(rt: &impl Print, red: f32, green: f32, blue: f32) -> io::Result<()> {
-    print_bytes(
-        rt,
-        screen::screen_byte(red),
-        screen::screen_byte(green),
-        screen::screen_byte(blue),
-    )
+fn print_sample(rt: &impl Print, sample: [f32; 3]) -> io::Result<()> {
+    print_bytes(rt, sample.map(screen::screen_byte))
+}
+
+// A white sample, one of a red box, and a black one, as the three channels of XYB.
+const CHANNELS: [[f32; 3]; 3] = [
+    [0.0, 0.01979, 0.0],
+    [0.8453, 0.37586, 0.0],
+    [0.8453, 0.36405, 0.0],
+];
+
+// A channel as bytes for a screen.
+fn bytes_of(channel: [f32; 3]) -> [u8; 3] {
+    let mut bytes = [0u8; 3];
+    // There are as many bytes as samples, so it is not refused.
+    let _ = screen::screen_bytes(&channel, &mut bytes);
+    bytes
 }
 
 fn at_once(rt: &impl Print, plan: Plan) -> io::Result<()> {
-    let mut a: [f32; 3] = [0.0, 0.01979, 0.0];
-    let mut b: [f32; 3] = [0.8453, 0.37586, 0.0];
-    let mut c: [f32; 3] = [0.8453, 0.36405, 0.0];
+    let [mut a, mut b, mut c] = CHANNELS;
     let ran = run::run(plan, &mut a, &mut b, &mut c);
-    let outcome = ran.outcome;
-    let ended = run::paper(outcome);
-    if ended.number != 0 || ended.width != 3 {
+    if ran.outcome != Ok(3) {
         return rt.println("the run is refused");
     }
-    let mut red = [0u8; 3];
-    let mut green = [0u8; 3];
-    let mut blue = [0u8; 3];
-    screen::screen_bytes(&a, &mut red);
-    screen::screen_bytes(&b, &mut green);
-    screen::screen_bytes(&c, &mut blue);
-    print_bytes(rt, red[0], green[0], blue[0])?;
-    print_bytes(rt, red[1], green[1], blue[1])?;
-    print_bytes(rt, red[2], green[2], blue[2])
+    let [red, green, blue] = [a, b, c].map(bytes_of);
+    for i in 0..3usize {
+        print_bytes(rt, [red[i], green[i], blue[i]])?;
+    }
+    Ok(())
 }
 
 // The same three samples by two strips, of one and of two.
 fn by_strips(rt: &impl Print, plan: Plan) -> io::Result<()> {
-    let mut a: [f32; 1] = [0.0];
-    let mut b: [f32; 1] = [0.8453];
-    let mut c: [f32; 1] = [0.8453];
-    let mut d: [f32; 2] = [0.01979, 0.0];
-    let mut e: [f32; 2] = [0.37586, 0.0];
-    let mut f: [f32; 2] = [0.36405, 0.0];
+    let [mut a, mut b, mut c] = CHANNELS;
     let opened = strips::open(strips::closed(), plan);
-    let first = strips::strip(opened.state, &mut a, &mut b, &mut c);
-    let second = strips::strip(first.state, &mut d, &mut e, &mut f);
+    let first = strips::strip(opened.state, &mut a[..1], &mut b[..1], &mut c[..1]);
+    let second = strips::strip(first.state, &mut a[1..], &mut b[1..], &mut c[1..]);
     let closed = strips::close(second.state);
-    let answer = closed.answer;
-    let ended = strips::paper(answer);
-    if ended.number != 0 || ended.width != 3 {
+    if closed.answer != Ok(3) {
         return rt.println("the run by strips is refused");
     }
     rt.println("the same by strips")?;
-    print_sample(rt, a[0], b[0], c[0])?;
-    print_sample(rt, d[0], e[0], f[0])?;
-    print_sample(rt, d[1], e[1], f[1])
+    for i in 0..3usize {
+        print_sample(rt, [a[i], b[i], c[i]])?;
+    }
+    Ok(())
 }
 
-// A white sample, one of a red box, and a black one, from XYB to linear RGB and to bytes for a screen.
+// The three samples from XYB to linear RGB and to bytes for a screen.
 fn picture(rt: &impl Print) -> io::Result<()> {
     let source = side(ColourSpace::Xyb, WhitePoint::D65, Curve::Linear);
     let target = side(ColourSpace::Rgb, WhitePoint::D65, Curve::Linear);
-    let planned = planner::plan(source, target, settings(255.0, false));
-    let reached = planned.answer;
-    if planner::paper(reached).number != 0 {
+    let Planned {
+        answer: Ok(()),
+        plan,
+    } = planner::plan(source, target, settings(255.0, false))
+    else {
         return rt.println("the plan is refused");
-    }
-    let plan = planned.plan;
+    };
     show_plan(rt, "Xyb to Rgb, intensity 255\n", plan)?;
     at_once(rt, plan)?;
     by_strips(rt, plan)
 }
 
-fn is_identity(m: Mat3) -> bool {
-    m.m0 == 1.0
-        && m.m1 == 0.0
-        && m.m2 == 0.0
-        && m.m3 == 0.0
-        && m.m4 == 1.0
-        && m.m5 == 0.0
-        && m.m6 == 0.0
-        && m.m7 == 0.0
-        && m.m8 == 1.0
-}
+const IDENTITY: Mat3 = Mat3 {
+    m0: 1.0,
+    m1: 0.0,
+    m2: 0.0,
+    m3: 0.0,
+    m4: 1.0,
+    m5: 0.0,
+    m6: 0.0,
+    m7: 0.0,
+    m8: 1.0,
+};
 
 // D65 by its coordinates has the same floats, and is another white point.
 fn custom_white(rt: &impl Print) -> io::Result<()> {
@@ -155,28 +153,25 @@ fn custom_white(rt: &impl Print) -> io::Result<()> {
     });
     let target = side(ColourSpace::Rgb, white, Curve::Linear);
     let planned = planner::plan(source, target, settings(255.0, false));
-    let plan = planned.plan;
-    show_plan(rt, "\nRgb to Rgb with Custom white\n", plan)?;
-    if is_identity(ciexyz::adapt_mat(WhitePoint::D65, white)) {
+    show_plan(rt, "\nRgb to Rgb with Custom white\n", planned.plan)?;
+    if ciexyz::adapt_mat(WhitePoint::D65, white) == IDENTITY {
         rt.println("the adaptation is the identity")?;
     }
     Ok(())
 }
 
-fn to_srgb(rt: &impl Print, title: &str, intensity: f32) -> io::Result<()> {
-    let source = side(ColourSpace::Rgb, WhitePoint::D65, Curve::Linear);
-    let target = side(ColourSpace::Rgb, WhitePoint::D65, Curve::Srgb);
-    let planned = planner::plan(source, target, settings(intensity, false));
-    let plan = planned.plan;
-    show_plan(rt, title, plan)
-}
-
-fn pq_to_hlg(rt: &impl Print, title: &str, intensity: f32) -> io::Result<()> {
-    let source = side(ColourSpace::Rgb, WhitePoint::D65, Curve::Pq);
-    let target = side(ColourSpace::Rgb, WhitePoint::D65, Curve::Hlg);
-    let planned = planner::plan(source, target, settings(intensity, true));
-    let plan = planned.plan;
-    show_plan(rt, title, plan)
+// From one curve to another, at an intensity; a plan from Pq says so.
+fn between(
+    rt: &impl Print,
+    title: &str,
+    source: Curve,
+    target: Curve,
+    intensity: f32,
+) -> io::Result<()> {
+    let from = side(ColourSpace::Rgb, WhitePoint::D65, source);
+    let to = side(ColourSpace::Rgb, WhitePoint::D65, target);
+    let planned = planner::plan(from, to, settings(intensity, source == Curve::Pq));
+    show_plan(rt, title, planned.plan)
 }
 
 // The plan of the picture as the office sends it: written as a plan block of a version, and read from there.
@@ -184,25 +179,21 @@ fn office(rt: &impl Print, title: &str, version: u16) -> io::Result<()> {
     let source = side(ColourSpace::Xyb, WhitePoint::D65, Curve::Linear);
     let target = side(ColourSpace::Rgb, WhitePoint::D65, Curve::Linear);
     let planned = planner::plan(source, target, settings(255.0, false));
-    let plan = planned.plan;
     let mut bytes = [0u8; 64];
-    let written = writer::write(plan, version, &mut bytes);
+    let written = writer::write(planned.plan, version, &mut bytes);
     let length = writer::length(written);
     print!(rt; "{title}{length}")?;
     let read = block::read(&bytes);
-    let sent = read.plan;
-    show_plan(rt, " bytes; read by the portal\n", sent)
+    show_plan(rt, " bytes; read by the portal\n", read.plan)
 }
 
 // The three samples of the picture, run by one list and then by another, as grey bytes for a screen.
 fn show_grey(rt: &impl Print, title: &str, first: Plan, second: Plan) -> io::Result<()> {
-    let mut a: [f32; 3] = [0.0, 0.01979, 0.0];
-    let mut b: [f32; 3] = [0.8453, 0.37586, 0.0];
-    let mut c: [f32; 3] = [0.8453, 0.36405, 0.0];
+    let [mut a, mut b, mut c] = CHANNELS;
     run::run(first, &mut a, &mut b, &mut c);
     run::run(second, &mut a, &mut b, &mut c);
     rt.print(title)?;
-    print_sample(rt, a[0], a[1], a[2])
+    print_sample(rt, a)
 }
 
 // The portal's plan of the picture joined to that of a screen with one channel.
@@ -210,16 +201,15 @@ fn joined(rt: &impl Print) -> io::Result<()> {
     let xyb = side(ColourSpace::Xyb, WhitePoint::D65, Curve::Linear);
     let rgb = side(ColourSpace::Rgb, WhitePoint::D65, Curve::Linear);
     let grey = side(ColourSpace::Grey, WhitePoint::D65, Curve::Linear);
-    let to_rgb = planner::plan(xyb, rgb, settings(255.0, false));
-    let to_grey = planner::plan(rgb, grey, settings(255.0, false));
-    let portal = to_rgb.plan;
-    let screen = to_grey.plan;
-    let one = join::join(portal, screen);
-    let answer = one.answer;
-    if list::paper(answer).number != 0 {
+    let portal = planner::plan(xyb, rgb, settings(255.0, false)).plan;
+    let screen = planner::plan(rgb, grey, settings(255.0, false)).plan;
+    let Joined {
+        answer: Ok(_),
+        plan,
+    } = join::join(portal, screen)
+    else {
         return rt.println("the join is refused");
-    }
-    let plan = one.plan;
+    };
     show_plan(rt, "\nXyb to Rgb, joined to Rgb to Grey\n", plan)?;
     show_grey(rt, "the joined list: ", plan, list::empty(1))?;
     show_grey(rt, "one after the other: ", portal, screen)
@@ -228,12 +218,36 @@ fn joined(rt: &impl Print) -> io::Result<()> {
 fn main(rt: HostRuntime) -> io::Result<()> {
     picture(&rt)?;
     custom_white(&rt)?;
-    to_srgb(&rt, "\nLinear to Srgb, intensity 255\n", 255.0)?;
-    to_srgb(&rt, "\nLinear to Srgb, the next above 255\n", 255.00002)?;
-    pq_to_hlg(&rt, "\nPq to Hlg, the next below 999\n", 998.99994)?;
-    pq_to_hlg(&rt, "\nPq to Hlg, 999\n", 999.0)?;
-    pq_to_hlg(&rt, "\nPq to Hlg, 1001\n", 1001.0)?;
-    pq_to_hlg(&rt, "\nPq to Hlg, the next above 1001\n", 1001.00006)?;
+    between(
+        &rt,
+        "\nLinear to Srgb, intensity 255\n",
+        Curve::Linear,
+        Curve::Srgb,
+        255.0,
+    )?;
+    between(
+        &rt,
+        "\nLinear to Srgb, the next above 255\n",
+        Curve::Linear,
+        Curve::Srgb,
+        255.00002,
+    )?;
+    between(
+        &rt,
+        "\nPq to Hlg, the next below 999\n",
+        Curve::Pq,
+        Curve::Hlg,
+        998.99994,
+    )?;
+    between(&rt, "\nPq to Hlg, 999\n", Curve::Pq, Curve::Hlg, 999.0)?;
+    between(&rt, "\nPq to Hlg, 1001\n", Curve::Pq, Curve::Hlg, 1001.0)?;
+    between(
+        &rt,
+        "\nPq to Hlg, the next above 1001\n",
+        Curve::Pq,
+        Curve::Hlg,
+        1001.00006,
+    )?;
     office(&rt, "\nXyb to Rgb, written by the office in version 1: ", 1)?;
     office(&rt, "\nXyb to Rgb, written by the office in version 2: ", 2)?;
     joined(&rt)

@@ -1,5 +1,6 @@
 -- The example of 01: the bytes of the list that its block holds, in both versions; and a list that cannot be written.
 -- By computing.
+use Rattle.std.specs.Prelude.{Err}
 use Prim.Native.Nat.{ℕ}
 use mathlib.Core.Path.{◌≡◌, refl}
 use mathlib.Core.List.{List, [], ◌∷◌}
@@ -10,7 +11,7 @@ use Rattle.list.specs.Lists.{plan_of, is_true}
 use Rattle.list.specs.declared.Plan.{Plan}
 use Rattle.writer.specs.Bytes.{block_of}
 use Rattle.writer.specs.Writing.{writing_of}
-use Rattle.writer.specs.declared.Writing.TheVariants.{WrongVersion, BadField}
+use Rattle.writer.specs.declared.WriteError.TheVariants.{WrongVersion, BadField}
 
 -- Clip, LumaToXyz at (0.5, 0.25), XyzToLuma
 abbrev list : Plan
@@ -32,10 +33,10 @@ second = refl
 abbrev unwritable : Plan
 unwritable = plan_of 1 (O.LumaToXyz (record { x = nan; y = one }) ∷ [])
 
-pub eight_first : writing_of unwritable 3 0 ≡ WrongVersion
+pub eight_first : writing_of unwritable 3 0 ≡ Err WrongVersion
 unfolding writing_of is_true
 eight_first = refl
 
-pub nine_first : writing_of unwritable 2 0 ≡ BadField
+pub nine_first : writing_of unwritable 2 0 ≡ Err BadField
 unfolding writing_of is_true is_nan
 nine_first = refl

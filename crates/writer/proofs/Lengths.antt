@@ -14,8 +14,9 @@ use Rattle.parts.specs.Parts.{field_of, kind_of, values_of}
 use Rattle.parts.specs.declared.Value.{Value}
 use Rattle.parts.specs.declared.Value.TheVariants.{Float as the_float, Flag as the_flag, Curve as the_curve}
 use Rattle.parts.proofs.Back.{shape}
-use Rattle.list.specs.Lists.{ops_of, Lawful}
+use Rattle.list.specs.Lists.{ops_of, lawful, Lawful}
 use Rattle.list.specs.declared.Plan.{Plan}
+use Rattle.list.proofs.Formed.{lawful-exactly}
 use Rattle.list.proofs.Walk.{count-ops}
 use Rattle.block.specs.Fields.{size_of, bytes_of, payload_of}
 use Rattle.block.specs.Block.{head_of}
@@ -56,3 +57,10 @@ module _ (p : Plan) (v : ℕ) where
 
   pub at_most : Lawful p → length (block_of v p) ≤ 1192
   at_most l = omega (arith, length-is, (head-within v).1, ops-small (ops_of p), count-ops p.count p.ops, l.0.1)
+
+  -- behind the head there is room for the ops
+  pub ops_fit : (s : List ℕ) → s ≡ head_bytes v p → lawful p ≡ true → length s + length (joined op_bytes (ops_of p)) ≤ 1192
+  ops_fit s e l = rw e (rw (← length-append (head_bytes v p) (joined op_bytes (ops_of p))) (at_most ((lawful-exactly p).0 l)))
+
+pub few : (p : Plan) → lawful p ≡ true → p.count ≤ 32
+few p l = ((lawful-exactly p).0 l).0.1

@@ -8,7 +8,3 @@ pub mod Determined
 -- their laws
 pub mod Sorting
 pub mod Badness
--- laws of the code: loops over values and ops, the cells of an op, the answers
-pub mod Walking
-pub mod Cells
-pub mod Answering

@@ -1,5 +1,6 @@
 -- Writing answers by the first cause in the order 10, 8, 9, 15, 12 that holds, and by no other; the paper's number tells which.
 -- By the five tests, each of which holds exactly where its words do.
+use Rattle.std.specs.Prelude.{Ok, Err}
 use Prim.Native.Nat.{ℕ, ◌<◌}
 use mathlib.Core.Path.{◌≡◌, refl, ap, sym, subst, ◌∙◌}
 use mathlib.Core.Bool.{Bool, true, false}
@@ -24,8 +25,8 @@ use Rattle.block.proofs.Versions.{known_exactly}
 use Rattle.writer.specs.Bytes.{block_of}
 use Rattle.writer.specs.Writing.{paper, bad_list, retired_list, writing_of}
 use Rattle.writer.specs.Refusals.{Cause, Given}
-use Rattle.writer.specs.declared.Writing.{Writing}
-use Rattle.writer.specs.declared.Writing.TheVariants.{Done, Malformed, WrongVersion, BadField, Retired, NoRoom}
+use Rattle.writer.specs.Writing.{Writing}
+use Rattle.writer.specs.declared.WriteError.TheVariants.{Malformed, WrongVersion, BadField, Retired, NoRoom}
 use Rattle.writer.proofs.Badness.{bad_exactly, has_retired}
 
 pub other : (v w : Writing) → ¬ ((paper v).number ≡ (paper w).number) → ¬ (v ≡ w)
@@ -48,15 +49,15 @@ otherwise_known v = otherwise (known_exactly v) (fails_exactly (known_exactly v)
 module _ (p : Plan) (v : ℕ) where
   -- the answer of a number
   abbrev pub by_number : ℕ → Writing
-  by_number n = when eqb n 10 then Malformed else when eqb n 8 then WrongVersion else when eqb n 9 then BadField else when eqb n 15 then Retired else when eqb n 12 then NoRoom else Done (length (block_of v p))
+  by_number n = when eqb n 10 then (Err Malformed) else when eqb n 8 then (Err WrongVersion) else when eqb n 9 then (Err BadField) else when eqb n 15 then (Err Retired) else when eqb n 12 then (Err NoRoom) else Ok (length (block_of v p))
 
   abbrev pub Named : Writing → Type 0
   Named writing = by_number (paper writing).number ≡ writing
 
   module _ (room : ℕ) where
     -- behind the tests for 10 and 8
-    pub past-eight : {writing : Writing} → Lawful p → Known v → FirstOf (Cause p v room) (Done (length (block_of v p))) (BadField ∷ Retired ∷ NoRoom ∷ []) writing → Given p v room writing
-    past-eight l k rest = later (never_both p l) (later {a = WrongVersion} (λ n. n k) rest)
+    pub past-eight : {writing : Writing} → Lawful p → Known v → FirstOf (Cause p v room) (Ok (length (block_of v p))) ((Err BadField) ∷ (Err Retired) ∷ (Err NoRoom) ∷ []) writing → Given p v room writing
+    past-eight l k rest = later (never_both p l) (later {a = (Err WrongVersion)} (λ n. n k) rest)
 
     told : Given p v room (writing_of p v room) × Named (writing_of p v room)
     unfolding writing_of
@@ -67,7 +68,7 @@ module _ (p : Plan) (v : ℕ) where
 
         -- behind the test for 9
         past-nine : {writing : Writing} → lawful p ≡ true → known_version v ≡ true → bad_list p ≡ false
-            → FirstOf (Cause p v room) (Done (length (block_of v p))) (Retired ∷ NoRoom ∷ []) writing → Given p v room writing
+            → FirstOf (Cause p v room) (Ok (length (block_of v p))) ((Err Retired) ∷ (Err NoRoom) ∷ []) writing → Given p v room writing
         past-nine x q y rest = past-eight ((lawful-exactly p).0 x) ((known_exactly v).0 q) (later ((fails_exactly (bad_exactly p)).0 y) rest)
 
         by : (a k b r c : Bool) → lawful p ≡ a → known_version v ≡ k → bad_list p ≡ b → retired_list p ≡ r → ltb room (length (block_of v p)) ≡ c
@@ -90,8 +91,8 @@ module _ (p : Plan) (v : ℕ) where
     given = told.0
 
     -- what is written is as long as the block
-    pub done-is : {n : ℕ} → Given p v room (Done n) → length (block_of v p) ≡ n
+    pub done-is : {n : ℕ} → Given p v room (Ok n) → length (block_of v p) ≡ n
     done-is (later u (later k (later b (later r (later s none))))) = refl
 
-    pub is_whole : paper (writing_of p v room) ≡ answer 0 0 0 → writing_of p v room ≡ Done (length (block_of v p))
+    pub is_whole : paper (writing_of p v room) ≡ answer 0 0 0 → writing_of p v room ≡ Ok (length (block_of v p))
     is_whole e = sym told.1 ∙ ap (λ (a : Answer). by_number a.number) e

@@ -1,5 +1,5 @@
 -- When each answer is given, in words and apart from the tests. (02, W3, W8, W10). Definitions and relations only.
-use Rattle.std.specs.Prelude.{ℕ, ◌<◌, ◌≡◌, List, [], ◌∷◌, Float, length}
+use Rattle.std.specs.Prelude.{ℕ, ◌<◌, ◌≡◌, List, [], ◌∷◌, Float, length, Ok, Err}
 use Rattle.std.specs.Float.{nan}
 use Rattle.notation.specs.Order.{FirstOf}
 use Rattle.notation.specs.Several.{Some}
@@ -14,8 +14,8 @@ use Rattle.list.specs.Lists.{ops_of, Unlawful}
 use Rattle.list.specs.declared.Plan.{Plan}
 use Rattle.block.specs.Refusals.{Known}
 use Rattle.writer.specs.Bytes.{block_of}
-use Rattle.writer.specs.declared.Writing.{Writing}
-use Rattle.writer.specs.declared.Writing.TheVariants.{Done, Malformed, WrongVersion, BadField, Retired, NoRoom}
+use Rattle.writer.specs.Writing.{Writing}
+use Rattle.writer.specs.declared.WriteError.TheVariants.{Malformed, WrongVersion, BadField, Retired, NoRoom}
 
 -- of "Bad fields: NaN, a flag above 1, a curve above 8, `g` out of range or nonzero for curves 2 to 8." (01, Plan block) a list can hold two
 pub data Bad : Value → Type 0 where
@@ -34,16 +34,16 @@ RetiredList p = Some R.Retired (ops_of p)
 
 -- what each refusal is given for
 abbrev pub Cause : Plan → ℕ → ℕ → Writing → Type 0
-Cause p version room Malformed = Unlawful p
-Cause p version room WrongVersion = ¬ Known version
-Cause p version room BadField = BadList p
-Cause p version room Retired = RetiredList p
-Cause p version room NoRoom = room < length (block_of version p)
-Cause p version room (Done n) = Unit {0}
+Cause p version room (Err Malformed) = Unlawful p
+Cause p version room (Err WrongVersion) = ¬ Known version
+Cause p version room (Err BadField) = BadList p
+Cause p version room (Err Retired) = RetiredList p
+Cause p version room (Err NoRoom) = room < length (block_of version p)
+Cause p version room (Ok n) = Unit {0}
 
 -- "in this order 10, 9 .., 12", 8 "tested after 10", and 15 "between 9 and 12"; where none of these is given, the block's length
 abbrev pub order : List Writing
-order = Malformed ∷ WrongVersion ∷ BadField ∷ Retired ∷ NoRoom ∷ []
+order = (Err Malformed) ∷ (Err WrongVersion) ∷ (Err BadField) ∷ (Err Retired) ∷ (Err NoRoom) ∷ []
 
 abbrev pub Given : Plan → ℕ → ℕ → Writing → Type 0
-Given p version room writing = FirstOf (Cause p version room) (Done (length (block_of version p))) order writing
+Given p version room writing = FirstOf (Cause p version room) (Ok (length (block_of version p))) order writing

@@ -1,135 +1,102 @@
-// The bytes of a list, each part put into a buffer from a place on; the answer is the place behind it.
-ghost use Rattle.std.specs.Prelude.{◌≡◌, false, map, ◌≤◌, take};
+// The bytes of a list, each part put behind those before it; a block is never longer than 1,192, so there is always room.
+// Each function asks for the room of its own part: no invariant of the buffer says what is still to come.
+ghost use Rattle.std.specs.Prelude.{◌≡◌, ◌+◌, ◌≤◌, ◌++◌, false, true, map, length};
 ghost use Rattle.notation.specs.Several.{any};
-ghost use Rattle.list.specs.Lists.{op_of};
+ghost use Rattle.arrayvec.specs.ArrayVec.{array_vec_len};
+ghost use Rattle.list.specs.Lists.{op_of, lawful};
 ghost use Rattle.parts.specs.Parts.{value_of};
 ghost use Rattle.parts.specs.declared.Value.TheVariants.{Curve as the_curve};
-ghost use Rattle.buffer.specs.Buffer.{Room, Put};
-ghost use Rattle.writer.specs.Bytes.{u32_bytes, value_bytes, joined, op_bytes, end_bytes, head_bytes, block_of};
+ghost use Rattle.writer.specs.Bytes.{u32_bytes, value_bytes, joined, op_bytes, head_bytes, block_of};
 ghost use Rattle.writer.specs.Writing.{bad_value, bad_op, bad_list};
 
+use crate::LONGEST;
+use arrayvec::ArrayVec;
 use list::{Plan, Slot};
 use op::{Curve, Op};
 use parts::{Cell, Value};
 
-fn put(out: &mut [u8], at: usize, part: &[u8]) -> usize
-    requires { Room out.old at part.now }
-    ensures { Put out.old at part.now out.new result }
+type Bytes = ArrayVec<u8, LONGEST>;
+
+fn put_u32(out: &mut Bytes, n: u32)
+    requires { array_vec_len out.old + length (u32_bytes n) ≤ 1192 }
+    ensures { out.new.items ≡ out.old.items ++ u32_bytes n }
 {
-    buffer::put(out, at, part)
+    out.try_extend_from_slice(&n.to_le_bytes()).unwrap();
 }
 
-fn put_u32(out: &mut [u8], at: usize, n: u32) -> usize
-    requires { Room out.old at (u32_bytes n) }
-    ensures { Put out.old at (u32_bytes n) out.new result }
+fn put_curve(out: &mut Bytes, curve: Curve)
+    requires { array_vec_len out.old + length (value_bytes (the_curve curve)) ≤ 1192 }
+    ensures { out.new.items ≡ out.old.items ++ value_bytes (the_curve curve) }
 {
-    let a = (n % 0x100) as u8;
-    let b = (n / 0x100 % 0x100) as u8;
-    let c = (n / 0x100 / 0x100 % 0x100) as u8;
-    let d = (n / 0x100 / 0x100 / 0x100 % 0x100) as u8;
-    put(out, at, &[a, b, c, d])
+    out.push(parts::curve_number(curve));
+    put_u32(out, parts::gamma(curve));
 }
 
-fn put_curve(out: &mut [u8], at: usize, curve: Curve) -> usize
-    requires { Room out.old at (value_bytes (the_curve curve)) }
-    ensures { Put out.old at (value_bytes (the_curve curve)) out.new result }
-{
-    let number = parts::curve_number(curve);
-    let next = put(out, at, &[number]);
-    put_u32(out, next, parts::gamma(curve))
-}
-
-fn put_value(out: &mut [u8], at: usize, value: Value) -> usize
-    requires room { Room out.old at (value_bytes value) }
+fn put_value(out: &mut Bytes, value: Value)
+    requires room { array_vec_len out.old + length (value_bytes value) ≤ 1192 }
     requires value_value { bad_value value ≡ false }
-    ensures { Put out.old at (value_bytes value) out.new result }
+    ensures { out.new.items ≡ out.old.items ++ value_bytes value }
 {
     match value {
-        Value::Float(x) => put_u32(out, at, f32::to_bits(x)),
-        Value::Flag(on) => put(out, at, &[on as u8]),
-        Value::Curve(curve) => put_curve(out, at, curve),
+        Value::Float(x) => put_u32(out, x.to_bits()),
+        Value::Flag(on) => out.push(on as u8),
+        Value::Curve(curve) => put_curve(out, curve),
     }
 }
 
-fn put_values(out: &mut [u8], at: usize, cells: [Cell; 9], count: usize) -> usize
-    requires room { Room out.old at (joined value_bytes (map value_of (take count cells))) }
-    requires count_bound { (count ≤ 9) × (any bad_value (map value_of (take count cells)) ≡ false) }
-    ensures { Put out.old at (joined value_bytes (map value_of (take count cells))) out.new result }
+fn put_values(out: &mut Bytes, cells: &[Cell])
+    requires room { array_vec_len out.old + length (joined value_bytes (map value_of cells.now)) ≤ 1192 }
+    requires good { any bad_value (map value_of cells.now) ≡ false }
+    ensures { out.new.items ≡ out.old.items ++ joined value_bytes (map value_of cells.now) }
 {
-    let mut next = at;
-    let mut i: usize = 0;
-    while i < count {
-        let cell = cells[i];
-        let value = cell.0;
-        next = put_value(out, next, value);
-        i += 1;
+    for cell in cells {
+        put_value(out, cell.0);
     }
-    next
 }
 
-fn put_op(out: &mut [u8], at: usize, op: Op) -> usize
-    requires room { Room out.old at (op_bytes op) }
+fn put_op(out: &mut Bytes, op: Op)
+    requires room { array_vec_len out.old + length (op_bytes op) ≤ 1192 }
     requires op_value { bad_op op ≡ false }
-    ensures { Put out.old at (op_bytes op) out.new result }
+    ensures { out.new.items ≡ out.old.items ++ op_bytes op }
 {
     let parts = parts::parts_of(op);
-    let kind = parts.kind;
-    let count = parts.count;
-    let cells = parts.cells;
-    let next = put(out, at, &[kind]);
-    put_values(out, next, cells, count)
+    out.push(parts.kind);
+    put_values(out, &parts.cells[..parts.count]);
 }
 
-fn put_ops(out: &mut [u8], at: usize, slots: [Slot; 32], count: usize) -> usize
-    requires room { Room out.old at (joined op_bytes (map op_of (take count slots))) }
-    requires count_bound { (count ≤ 32) × (any bad_op (map op_of (take count slots)) ≡ false) }
-    ensures { Put out.old at (joined op_bytes (map op_of (take count slots))) out.new result }
+fn put_ops(out: &mut Bytes, ops: &[Slot])
+    requires room { array_vec_len out.old + length (joined op_bytes (map op_of ops.now)) ≤ 1192 }
+    requires good { any bad_op (map op_of ops.now) ≡ false }
+    ensures { out.new.items ≡ out.old.items ++ joined op_bytes (map op_of ops.now) }
 {
-    let mut next = at;
-    let mut i: usize = 0;
-    while i < count {
-        let slot = slots[i];
-        let op = slot.op;
-        next = put_op(out, next, op);
-        i += 1;
+    for slot in ops {
+        put_op(out, slot.op);
     }
-    next
 }
 
-fn put_end(out: &mut [u8], at: usize, version: u16, end: u8) -> usize
-    requires { Room out.old at (end_bytes version end) }
-    ensures { Put out.old at (end_bytes version end) out.new result }
+fn head_of(version: u16, plan: Plan) -> Bytes
+    requires { plan.count ≤ 32 }
+    ensures { result.items ≡ head_bytes version plan }
 {
-    if version == 2 {
-        return put(out, at, &[end]);
-    }
-    at
-}
-
-fn put_head(out: &mut [u8], version: u16, plan: Plan) -> usize
-    requires room { Room out.old 0 (head_bytes version plan) }
-    requires count_bound { plan.count ≤ 32 }
-    ensures { Put out.old 0 (head_bytes version plan) out.new result }
-{
+    let mut head = ArrayVec::new();
     let mark = block::MARK;
-    let low = (version % 0x100) as u8;
-    let high = (version / 0x100 % 0x100) as u8;
-    let start = plan.start;
+    let [low, high] = version.to_le_bytes();
     let count = plan.count as u8;
-    let next = put(
-        out,
-        0,
-        &[mark[0], mark[1], mark[2], low, high, start, count],
-    );
-    put_end(out, next, version, plan.end)
+    let first = [mark[0], mark[1], mark[2], low, high, plan.start, count];
+    head.try_extend_from_slice(&first).unwrap();
+    if version == 2 {
+        head.push(plan.end);
+    }
+    head
 }
 
-pub(crate) fn put_block(out: &mut [u8], version: u16, plan: Plan) -> usize
-    requires room { Room out.old 0 (block_of version plan) }
-    requires count_bound { (plan.count ≤ 32) × (bad_list plan ≡ false) }
-    ensures { Put out.old 0 (block_of version plan) out.new result }
+#[tactic(auto, using(crate::proofs::Lengths::ops_fit, crate::proofs::Lengths::few))]
+pub(crate) fn block_of(version: u16, plan: Plan) -> Bytes
+    requires lawful { lawful plan ≡ true }
+    requires good { bad_list plan ≡ false }
+    ensures { result.items ≡ block_of version plan }
 {
-    let slots = plan.ops;
-    let next = put_head(out, version, plan);
-    put_ops(out, next, slots, plan.count)
+    let mut block = head_of(version, plan);
+    put_ops(&mut block, &plan.ops[..plan.count]);
+    block
 }

@@ -4,21 +4,18 @@
 ghost use Rattle.std.specs.Prelude.{◌≡◌, length};
 ghost use Rattle.writer.specs.Writing.{paper, length_of, writing_of, left_of};
 
-mod faults; // faults.rt: fields that the reader would refuse, and the retired curve
+mod faults; // faults.rt: fields that the reader would refuse
 mod laying; // laying.rt: the bytes of a list
 
-use faults::Fault;
 use list::Plan;
 use notation::Answer;
 
 // No block is longer: a buffer of so many bytes is never too short.
 pub const LONGEST: usize = 1192;
 
-// What writing answers.
-#[derive(Clone, Copy)]
-pub enum Writing {
-    // So many bytes are written.
-    Done { length: usize },
+// For what a list is not written.
+#[derive(Clone, Copy, Debug, PartialEq, Eq)]
+pub enum WriteError {
     // 10: the start width is not 1 or 3, the count is above 32, or the end width is false.
     Malformed,
     // 8: no such version.
@@ -32,82 +29,50 @@ pub enum Writing {
 }
 
 // The paper's answer.
-pub fn paper(writing: Writing) -> Answer
+pub fn paper(writing: Result<usize, WriteError>) -> Answer
     ensures { result ≡ paper writing }
 {
     match writing {
-        Writing::Done { .. } => Answer {
-            number: 0,
-            position: 0,
-            width: 0,
-        },
-        Writing::Malformed => Answer {
-            number: 10,
-            position: 0,
-            width: 0,
-        },
-        Writing::WrongVersion => Answer {
-            number: 8,
-            position: 0,
-            width: 0,
-        },
-        Writing::BadField => Answer {
-            number: 9,
-            position: 0,
-            width: 0,
-        },
-        Writing::Retired => Answer {
-            number: 15,
-            position: 0,
-            width: 0,
-        },
-        Writing::NoRoom => Answer {
-            number: 12,
-            position: 0,
-            width: 0,
-        },
+        Ok(_) => Answer::done(0),
+        Err(WriteError::Malformed) => Answer::refused(10),
+        Err(WriteError::WrongVersion) => Answer::refused(8),
+        Err(WriteError::BadField) => Answer::refused(9),
+        Err(WriteError::Retired) => Answer::refused(15),
+        Err(WriteError::NoRoom) => Answer::refused(12),
     }
 }
 
 // The length used; 0 where writing is refused.
-pub fn length(writing: Writing) -> usize
+pub fn length(writing: Result<usize, WriteError>) -> usize
     ensures { result ≡ length_of writing }
 {
-    match writing {
-        Writing::Done { length } => length,
-        Writing::Malformed => 0,
-        Writing::WrongVersion => 0,
-        Writing::BadField => 0,
-        Writing::Retired => 0,
-        Writing::NoRoom => 0,
-    }
+    writing.unwrap_or(0)
 }
 
 // Puts the block of a list, in version 1 or 2, at the front of a buffer; the bytes behind it stay, and a refusal leaves all as it was.
-pub fn write(plan: Plan, version: u16, bytes: &mut [u8]) -> Writing
+#[tactic(auto, unfolding(crate::specs::Writing::writing_of))]
+pub fn write(plan: Plan, version: u16, bytes: &mut [u8]) -> Result<usize, WriteError>
     ensures value { result ≡ writing_of plan version (length bytes.old) }
     ensures bytes_after { bytes.new ≡ left_of plan version bytes.old }
 {
     if !list::lawful(plan) {
-        return Writing::Malformed;
+        return Err(WriteError::Malformed);
     }
     if !block::known_version(version) {
-        return Writing::WrongVersion;
+        return Err(WriteError::WrongVersion);
     }
-    let slots = plan.ops;
-    let count = plan.count;
-    if faults::any_op(Fault::BadFields, slots, count) {
-        return Writing::BadField;
+    let ops = &plan.ops[..plan.count];
+    if faults::any_bad_op(ops) {
+        return Err(WriteError::BadField);
     }
-    if faults::any_op(Fault::RetiredCurve, slots, count) {
-        return Writing::Retired;
+    if faults::any_retired(ops) {
+        return Err(WriteError::Retired);
     }
     // Laid out apart, since a buffer that is too short stays untouched.
-    let mut block = [0u8; LONGEST];
-    let used = laying::put_block(&mut block, version, plan);
-    if bytes.len() < used {
-        return Writing::NoRoom;
+    let block = laying::block_of(version, plan);
+    if bytes.len() < block.len() {
+        return Err(WriteError::NoRoom);
     }
-    buffer::put(bytes, 0, &block[..used]);
-    Writing::Done { length: used }
+    bytes[..block.len()].copy_from_slice(&block);
+    Ok(block.len())
 }

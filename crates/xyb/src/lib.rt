@@ -1,4 +1,5 @@
 // The inversion of XYB, after src/xyb.rs: X, Y, B samples become mixed L, M, S.
+// Three slices, as `channels` says.
 #![tactic(auto)]
 
 mod cube;
@@ -12,10 +13,12 @@ ghost use Rattle.channels.specs.Stepping.{step_of};
 ghost use Rattle.xyb.specs.Xyb.{mixed_by, mixed_lms, roots_of};
 ghost use Rattle.counts.specs.Bad.{stepped_of};
 
-use channels::Stepping;
+use channels::Unequal;
 use ciexyz::Vec3;
 use counts::Stepped;
+use piece::Inversion;
 
+#[tactic(auto, unfolding(crate::specs::Xyb::roots_of))]
 fn roots_of(bias: Vec3) -> Vec3
     ensures { result ≡ roots_of bias }
 {
@@ -27,32 +30,29 @@ fn roots_of(bias: Vec3) -> Vec3
 }
 
 // By pieces of 256 samples at most, which have room on the stack.
-fn inverted(roots: Vec3, bias: Vec3, scale: f32, x: &mut [f32], y: &mut [f32], b: &mut [f32])
+// Kept by places and not by `chunks_mut`: of what that lends, a proof knows the length alone once it is written.
+fn inverted(by: Inversion, x: &mut [f32], y: &mut [f32], b: &mut [f32])
     requires { EquallyLong (channels x.old y.old b.old) }
-    ensures { channels x.new y.new b.new ≡ each (mixed_by roots bias scale) (channels x.old y.old b.old) }
+    ensures { channels x.new y.new b.new ≡ each (mixed_by by.roots by.bias by.scale) (channels x.old y.old b.old) }
 {
-    let near = window::are_biases(bias);
+    let near = window::are_biases(by.bias);
     let mut p = [0.0f32; 256];
     let mut q = [0.0f32; 256];
     let mut r = [0.0f32; 256];
     let n = x.len();
-    let mut j: usize = 0;
-    while j < n {
+    for k in 0..n.div_ceil(256) {
+        let j = 256 * k;
         let m = channels::next_piece(n - j, 256);
         let e = j + m;
-        piece::inverted(
-            roots,
-            bias,
-            scale,
+        by.invert(
             near,
             &mut x[j..e],
             &mut y[j..e],
             &mut b[j..e],
-            &mut p[0..m],
-            &mut q[0..m],
-            &mut r[0..m],
+            &mut p[..m],
+            &mut q[..m],
+            &mut r[..m],
         );
-        j = e;
     }
 }
 
@@ -63,17 +63,20 @@ pub fn xyb_to_mixed_lms_samples(
     x: &mut [f32],
     y: &mut [f32],
     b: &mut [f32],
-) -> Stepping
+) -> Result<u8, Unequal>
     ensures value { result ≡ step_of 3 (channels x.old y.old b.old) }
     ensures b_after { channels x.new y.new b.new ≡ where_equal (each (mixed_lms opsin_bias intensity_target)) (channels x.old y.old b.old) }
 {
     if !channels::same_lengths(x.len(), y.len(), b.len()) {
-        return Stepping::Unequal;
+        return Err(Unequal);
     }
-    let roots = roots_of(opsin_bias);
-    let scale = 255.0 / intensity_target;
-    inverted(roots, opsin_bias, scale, x, y, b);
-    Stepping::Done { width: 3 }
+    let by = Inversion {
+        roots: roots_of(opsin_bias),
+        bias: opsin_bias,
+        scale: 255.0 / intensity_target,
+    };
+    inverted(by, x, y, b);
+    Ok(3)
 }
 
 // XybToMixedLms's own step.

@@ -9,7 +9,7 @@ use Rattle.notation.specs.F32.{bits}
 use Rattle.binary32.proofs.Apart.{is_finite}
 use Rattle.binary32.proofs.Fields.{exponent, leading_digit, no_leading_digit}
 use Rattle.ciexyz.specs.declared.Vec3.{Vec3}
-use Rattle.ycbcr.specs.Steps.{Ordinary, Ready, Single, Within, all_of, any_of, capped, one_less, pattern_of}
+use Rattle.ycbcr.specs.Steps.{Ordinary, Ready, Single, Within, all_of, any_of, one_less, pattern_of}
 
 -- ---- a sample by its pattern
 module _ (x : Float) (f : T (fits binary32 x)) (n : T (not (is_nan x))) where
@@ -34,23 +34,12 @@ module _ (x : Float) (f : T (fits binary32 x)) (n : T (not (is_nan x))) where
       over : (w : ℕ) → 0 < w % 0x8000_0000 → w % 0x8000_0000 < 0x4000_0000 → 0x3000_0000 ≤ (w + 0xffff_ffff) % 2 ^ 32 % 0x4000_0000 → 0x3000_0000 ≤ w % 0x8000_0000
       over w p h l = omega arith
 
--- a sample below another is no NaN, nor is 2
+-- a sample below another is no NaN
 real_below : (x y : Float) → lt x y ≡ true → T (not (is_nan x))
 unfolding lt is_nan
 real_below nan y e = absurd (subst T (sym e) tt)
 real_below (inf s) y e = tt
 real_below (fin s m k) y e = tt
-
-two_real : T (not (is_nan (bits 0x4000_0000)))
-unfolding of_bits is_nan
-two_real = tt
-
-pub real_capped : (x : Float) → T (not (is_nan (capped x)))
-real_capped x = by (lt x (bits 0x4000_0000)) (real_below x (bits 0x4000_0000))
-  where
-    by : (b : Bool) → (b ≡ true → T (not (is_nan x))) → T (not (is_nan (when b then x else bits 0x4000_0000)))
-    by true n = n refl
-    by false n = two_real
 
 -- 2 is not in the window
 two_out : to_bits binary32 (bits 0x4000_0000) % 0x8000_0000 < 0x4000_0000 → ⊥

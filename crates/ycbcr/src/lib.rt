@@ -1,4 +1,5 @@
 // YCbCr to RGB, after src/ycbcr.rs, by the weights that a firmware means.
+// Three slices, as `channels` says.
 #![tactic(auto)]
 
 mod one_pixel;
@@ -12,11 +13,11 @@ ghost use Rattle.firmware.specs.Conversion.{conversion_of, left_by};
 ghost use Rattle.ycbcr.specs.Steps.{Factors};
 ghost use Rattle.ycbcr.specs.Ycbcr.{constants_of, part, rgb_by, rgb_of};
 
-use firmware::Conversion;
+use firmware::ConversionError;
 use weights::Weights;
 
-// What Cb and Cr are multiplied by, worked out once for a channel.
-#[derive(Clone, Copy)]
+// What Cb and Cr are multiplied by, worked out once for a channel. `Factors` stays a requires: `constants_of` has to give the constants of any weights.
+#[derive(Clone, Copy, Debug, PartialEq)]
 struct Constants {
     // of Cr, for red
     red: f32,
@@ -28,12 +29,14 @@ struct Constants {
 }
 
 // So many of the whole.
+#[tactic(auto, unfolding(crate::specs::Ycbcr::part))]
 fn part(n: u32, whole: u32) -> f32
     ensures { result ≡ part n whole }
 {
     std::num::nearest_u32_to_f32(n) / std::num::nearest_u32_to_f32(whole)
 }
 
+#[tactic(auto, unfolding(crate::specs::Ycbcr::green_of_cr, crate::specs::Ycbcr::green_of_cb))]
 fn constants_of(w: Weights) -> Constants
     ensures { result ≡ constants_of w }
 {
@@ -53,6 +56,7 @@ fn constants_of(w: Weights) -> Constants
 }
 
 // By pieces of 256 pixels at most, which have room on the stack.
+// Kept by places and not by `chunks_mut`: of what that lends, a proof knows the length alone once it is written.
 fn rgb_each(k: Constants, cb: &mut [f32], y: &mut [f32], cr: &mut [f32])
     requires factors { Factors k }
     requires equally_long { EquallyLong (channels cb.old y.old cr.old) }
@@ -62,8 +66,8 @@ fn rgb_each(k: Constants, cb: &mut [f32], y: &mut [f32], cr: &mut [f32])
     let mut q = [0.0f32; 256];
     let mut r = [0.0f32; 256];
     let n = cb.len();
-    let mut j: usize = 0;
-    while j < n {
+    for i in 0..n.div_ceil(256) {
+        let j = 256 * i;
         let m = channels::next_piece(n - j, 256);
         let e = j + m;
         piece::converted(
@@ -71,28 +75,26 @@ fn rgb_each(k: Constants, cb: &mut [f32], y: &mut [f32], cr: &mut [f32])
             &mut cb[j..e],
             &mut y[j..e],
             &mut cr[j..e],
-            &mut p[0..m],
-            &mut q[0..m],
-            &mut r[0..m],
+            &mut p[..m],
+            &mut q[..m],
+            &mut r[..m],
         );
-        j = e;
     }
 }
 
 // Cb, Y, Cr in; R, G, B out.
-pub fn ycbcr_to_rgb(firmware: u32, cb: &mut [f32], y: &mut [f32], cr: &mut [f32]) -> Conversion
+pub fn ycbcr_to_rgb(
+    firmware: u32,
+    cb: &mut [f32],
+    y: &mut [f32],
+    cr: &mut [f32],
+) -> Result<(), ConversionError>
     ensures value { result ≡ conversion_of firmware (equally_long (channels cb.old y.old cr.old)) }
     ensures cr_after { channels cb.new y.new cr.new ≡ left_by (conversion_of firmware (equally_long (channels cb.old y.old cr.old))) (each (rgb_of (weights_of firmware)) (channels cb.old y.old cr.old)) (channels cb.old y.old cr.old) }
 {
     let equal = channels::same_lengths(cb.len(), y.len(), cr.len());
-    let answer = firmware::judge(firmware, equal);
-    match answer {
-        Conversion::Done => {
-            let k = constants_of(firmware::weights_of(firmware));
-            rgb_each(k, cb, y, cr);
-            Conversion::Done
-        }
-        Conversion::UnknownFirmware => Conversion::UnknownFirmware,
-        Conversion::Unequal => Conversion::Unequal,
-    }
+    firmware::judge(firmware, equal)?;
+    let k = constants_of(firmware::weights_of(firmware));
+    rgb_each(k, cb, y, cr);
+    Ok(())
 }

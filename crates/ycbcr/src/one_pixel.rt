@@ -7,6 +7,7 @@ use crate::{Constants, window};
 use ciexyz::Vec3;
 
 // For every pixel, but slowly.
+#[tactic(auto, unfolding(crate::specs::Steps::rgb_raised))]
 fn fused_rgb(k: Constants, cbycr: Vec3) -> Vec3
     ensures { result ≡ rgb_raised k cbycr }
 {
@@ -28,7 +29,7 @@ fn is_ready(cbycr: Vec3) -> bool
     window::are_within(window::any_of(0, cbycr), window::all_of(0xffff_ffff, cbycr))
 }
 
-// R, G, B, and whether they are sure.
+// R, G, B, and whether they are sure: a flag, and no Option, since the loop over a block has no branch.
 #[derive(Clone, Copy)]
 pub(crate) struct Worked {
     pub(crate) red: f32,

@@ -5,7 +5,7 @@ ghost use Rattle.ycbcr.specs.Steps.{Single, Within, all_of, any_of, capped, one_
 
 use ciexyz::Vec3;
 
-// x, or 2 where x is no smaller, or a NaN, which has no pattern.
+// x, or 2 where x is no smaller, or a NaN, which has no pattern. Kept as a test, which is one instruction; f32's min takes more.
 fn capped(x: f32) -> f32
     ensures { result ≡ capped x }
 {
@@ -22,7 +22,7 @@ fn pattern(x: f32) -> u32
 fn one_less(x: f32) -> u32
     ensures { result ≡ one_less x }
 {
-    std::num::wrapping_add_u32(pattern(x), 0xffff_ffff)
+    pattern(x).wrapping_sub(1)
 }
 
 // The digits so far, and those of three samples more.

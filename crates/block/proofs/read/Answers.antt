@@ -1,5 +1,6 @@
 -- `read` meets its contract.
 -- Each return is what `read_of` computes to under the tests that led there.
+use Rattle.std.specs.Prelude.{Err}
 use Prim.Native.Nat.{ℕ, ◌≤◌}
 use mathlib.Core.Path.{◌≡◌, ap, sym, ◌∙◌}
 use native.Mathlib.Omega.{arith}
@@ -10,7 +11,7 @@ use Rattle.notation.specs.Choice.{when◌then◌else◌}
 use Rattle.list.proofs.Formed.{formed-exactly}
 use Rattle.block.specs.Fields.{byte_at}
 use Rattle.block.specs.Block.{refused_by, version_of, head_of, ops_in, listed, end_told, read_behind, read_of}
-use Rattle.block.specs.declared.Reading.TheVariants.{Short}
+use Rattle.block.specs.declared.ReadError.TheVariants.{Short}
 use Rattle.block.proofs.Turn.{version-fits}
 use Rattle.block.proofs.read.Goals as goal
 
@@ -23,7 +24,7 @@ returns-then-not-right_mark c = rw (c.refused_by-then-not-right_mark.ensures, le
 pub returns-then-bytes-head_of : goal.returns-then-bytes-head_of
 returns-then-bytes-head_of c =
     let past-mark : let s = c.args.bytes.now in
-    read_of s ≡ (when ltb (length s) (head_of (version_of s)) then refused_by Short else read_behind (version_of s) s) = let s = c.args.bytes.now in
+    read_of s ≡ (when ltb (length s) (head_of (version_of s)) then refused_by (Err Short) else read_behind (version_of s) s) = let s = c.args.bytes.now in
     rw (le-ltb (length s) 7 c.if-bytes-lt-HEAD.false, sym c.right_mark.ensures ∙ c.if-not-right_mark.false) in
     let head-is : c.head_of.result ≡ head_of (version_of c.args.bytes.now) = c.head_of.ensures ∙ ap head_of c.u16_at-version.ensures in
     let d = c in
@@ -37,7 +38,7 @@ overflow_cast-count c = omega (arith, c.shared_slice_known-3-1.given 6)
 pub returns-then-not-well_formed : goal.returns-then-not-well_formed
 returns-then-not-well_formed c =
     let past-mark : let s = c.args.bytes.now in
-    read_of s ≡ (when ltb (length s) (head_of (version_of s)) then refused_by Short else read_behind (version_of s) s) = let s = c.args.bytes.now in
+    read_of s ≡ (when ltb (length s) (head_of (version_of s)) then refused_by (Err Short) else read_behind (version_of s) s) = let s = c.args.bytes.now in
     rw (le-ltb (length s) 7 c.if-bytes-lt-HEAD.false, sym c.right_mark.ensures ∙ c.if-not-right_mark.false) in
     let head-is : c.head_of.result ≡ head_of (version_of c.args.bytes.now) = c.head_of.ensures ∙ ap head_of c.u16_at-version.ensures in
     let past_head : let s = c.args.bytes.now in read_of s ≡ read_behind (version_of s) s = let s = c.args.bytes.now in
@@ -66,7 +67,7 @@ end_told-requires c =
 pub returns : goal.returns
 returns c =
     let past-mark : let s = c.args.bytes.now in
-    read_of s ≡ (when ltb (length s) (head_of (version_of s)) then refused_by Short else read_behind (version_of s) s) = let s = c.args.bytes.now in
+    read_of s ≡ (when ltb (length s) (head_of (version_of s)) then refused_by (Err Short) else read_behind (version_of s) s) = let s = c.args.bytes.now in
     rw (le-ltb (length s) 7 c.if-bytes-lt-HEAD.false, sym c.right_mark.ensures ∙ c.if-not-right_mark.false) in
     let head-is : c.head_of.result ≡ head_of (version_of c.args.bytes.now) = c.head_of.ensures ∙ ap head_of c.u16_at-version.ensures in
     let past_head : let s = c.args.bytes.now in read_of s ≡ read_behind (version_of s) s = let s = c.args.bytes.now in

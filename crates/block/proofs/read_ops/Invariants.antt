@@ -8,7 +8,4 @@ use Rattle.block.proofs.Turn.{from, Kept}
 use Rattle.block.proofs.read_ops.Given as goal
 
 abbrev pub invariant-loop-i : goal.invariant-loop-i
-invariant-loop-i l = (l.i ≤ l.count) × (l.used ≤ length l.s) × (from l.version l.plan l.used (ops_in (l.count - l.i) (drop l.used l.s)) ≡ listed l.version l.start (ops_in l.count (drop (head_of l.version) l.s))) × Kept l.plan
-
-abbrev pub decreases-loop-i : goal.decreases-loop-i
-decreases-loop-i l = l.count - l.i
+invariant-loop-i l = (l.used ≤ length l.s) × (from l.version l.plan l.used (ops_in (l.count - l.i) (drop l.used l.s)) ≡ listed l.version l.start (ops_in l.count (drop (head_of l.version) l.s))) × Kept l.plan

@@ -1,28 +1,16 @@
 -- `cbrt` answers the f32 nearest the root.
 -- The size is scaled to g * 8 ^ a, the root of g is rounded to 24 digits, and the magnitude puts it together with the sign.
 use mathlib.Core.Path.{subst, sym, ◌∙◌, ◌≡◌}
-use mathlib.Core.Bool.{Bool, not}
-use Prim.Native.Nat.{ℕ}
 use native.Mathlib.Omega.{arith}
 use lib.Dec.{T}
-use lib.Ieee.{Float, binary32, fin, fits, inf, nan}
-use lib.Ieee.Scale.{finite}
-use Rattle.binary32.proofs.Apart.{IsFinite, is_finite}
-use Rattle.binary32.specs.Parts.{parts_of}
-use Rattle.binary32.specs.declared.Parts.{Parts}
-use Rattle.binary32.specs.declared.Parts.TheVariants.{Finite}
+use lib.Ieee.{Float, binary32, fits}
+use Rattle.binary32.proofs.Apart.{IsFinite, is_finite, not_finite}
 use Rattle.cbrt.proofs.Found.{cbrt-is}
 use Rattle.cbrt.proofs.Put.{fits-put, root-put}
 use Rattle.cbrt.proofs.Self.{self_root, zero-root}
 use Rattle.cbrt.specs.Root.{cbrt_of, is_root}
 use Rattle.cbrt.proofs.cbrt.Goals.{In-Finite}
 use Rattle.cbrt.proofs.cbrt.Goals as goal
-
--- a float whose parts are not `Finite`
-not_finite : (x : Float) (p : Parts) → p ≡ parts_of x → ((s : Bool) (d k : ℕ) → p ≡ Finite s d k → ⊥) → T (not (finite x))
-not_finite nan p e h = tt
-not_finite (inf s) p e h = tt
-not_finite (fin s m n) p e h = absurd (h _ _ _ e)
 
 -- x by its digits and its place
 parts : (c : In-Finite) → IsFinite c.args.x c.in-Finite.negative c.in-Finite.digits c.in-Finite.place

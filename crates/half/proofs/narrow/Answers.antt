@@ -10,18 +10,6 @@ use Rattle.half.proofs.Lines.{length-line, line_at}
 use Rattle.half.proofs.Twice.{halves_exactly}
 use Rattle.half.proofs.narrow.Goals as goal
 
-pub bounds-out-i : goal.bounds-out-i
-bounds-out-i c = omega arith
-
-pub overflow_add-i : goal.overflow_add-i
-overflow_add-i c = omega arith
-
-pub loop-i-smaller : goal.loop-i-smaller
-loop-i-smaller c = omega arith
-
-pub shape_of-out : goal.shape_of-out
-shape_of-out c = c.loop-i.invariant.long
-
 pub loop-i-init : goal.loop-i-init
 loop-i-init c =
     let f = (halves_exactly (length c.args.out.now) (length c.args.c.now)).0 (sym c.fits_twice.ensures ∙ c.if-not-fits_twice.false) in

@@ -14,18 +14,6 @@ use Rattle.half.proofs.widen.Goals as goal
 pub loop-j-init : goal.loop-j-init
 loop-j-init c = begun _ _ (length-line _ _)
 
-pub bounds-out-j : goal.bounds-out-j
-bounds-out-j c = omega arith
-
-pub overflow_add-j : goal.overflow_add-j
-overflow_add-j c = omega arith
-
-pub loop-j-smaller : goal.loop-j-smaller
-loop-j-smaller c = omega arith
-
-pub shape_of-out : goal.shape_of-out
-shape_of-out c = c.loop-j.invariant.long
-
 pub loop-j-preserved : goal.loop-j-preserved
 loop-j-preserved c =
     let z = c.args in

@@ -1,11 +1,6 @@
--- `filed` is safe, and ends.
--- Each strip leaves fewer pixels, and the input keeps its length.
-use mathlib.Core.Path.{◌≡◌}
-use lib.ListN.{length}
+-- The loop of `filed` ends.
+-- Each strip leaves fewer pixels.
 use Rattle.planshow.proofs.filed.Given as goal
 
-abbrev pub invariant-loop-p : goal.invariant-loop-p
-invariant-loop-p l = length l.input ≡ length l.initial.input
-
-abbrev pub decreases-loop-p : goal.decreases-loop-p
-decreases-loop-p l = l.p.left
+abbrev pub decreases-loop-left : goal.decreases-loop-left
+decreases-loop-left l = l.left

@@ -2,7 +2,6 @@
 -- The invariant: the rest of the cells, from here, compare as the whole do.
 use Prim.Native.Nat.{◌≤◌, ◌<◌}
 use mathlib.Core.Path.{refl, sym, ◌∙◌}
-use native.Mathlib.Omega.{arith}
 use borrow.Author.Rules.{rules}
 use lib.ListN.{length, drop_of_length-le}
 use Rattle.same.specs.Same.{same_cell}
@@ -11,43 +10,25 @@ use Rattle.notation.proofs.Elements.{next}
 use Rattle.same.proofs.same_cells.Goals as goal
 
 pub loop-i-init : goal.loop-i-init
-loop-i-init c = (omega arith, refl)
-
-pub offset_bounds-a-i : goal.offset_bounds-a-i
-offset_bounds-a-i c = omega arith
-
-pub bounds-a-i : goal.bounds-a-i
-bounds-a-i c = omega arith
-
-pub offset_bounds-b-i : goal.offset_bounds-b-i
-offset_bounds-b-i c = omega arith
-
-pub bounds-b-i : goal.bounds-b-i
-bounds-b-i c = omega arith
+loop-i-init c = refl
 
 pub returns-then-not-same_value : goal.returns-then-not-same_value
 returns-then-not-same_value c =
     let l = c in
     let m : l.loop-i.i < length l.args.a = search rules in
     let n : l.loop-i.i < length l.args.b = search rules in
-    sym (stops same_cell (next _ _ _ m) (next _ _ _ n) c.same_value.ensures (c.if-not-same_value.true)) ∙ l.loop-i.invariant.1
-
-pub overflow_add-i : goal.overflow_add-i
-overflow_add-i c = omega arith
-
-pub loop-i-smaller : goal.loop-i-smaller
-loop-i-smaller c = omega arith
+    sym (stops same_cell (next _ _ _ m) (next _ _ _ n) c.same_value.ensures (c.if-not-same_value.true)) ∙ l.loop-i.invariant
 
 pub loop-i-preserved : goal.loop-i-preserved
 loop-i-preserved c =
     let l = c in
     let m : l.loop-i.i < length l.args.a = search rules in
     let n : l.loop-i.i < length l.args.b = search rules in
-    (omega arith, sym (goes same_cell (next _ _ _ m) (next _ _ _ n) c.same_value.ensures (c.if-not-same_value.false)) ∙ l.loop-i.invariant.1)
+    sym (goes same_cell (next _ _ _ m) (next _ _ _ n) c.same_value.ensures (c.if-not-same_value.false)) ∙ l.loop-i.invariant
 
 pub returns : goal.returns
 returns c =
     let l = c in
     let m : length l.args.a ≤ l.loop-i.i = search rules in
     let n : length l.args.b ≤ l.loop-i.i = search rules in
-    rw (drop_of_length-le l.args.a m, drop_of_length-le l.args.b n) at l.loop-i.invariant.1
+    rw (drop_of_length-le l.args.a m, drop_of_length-le l.args.b n) at l.loop-i.invariant

@@ -1,24 +1,15 @@
 -- `same::same_float` meets its contract.
--- A float that differs from itself is NaN; two others are equal where their bits are.
-use mathlib.Core.Path.{sym, subst}
+-- A NaN is the same as a NaN alone; two others are equal where their bits are.
+use mathlib.Core.Path.{sym, subst, ◌∙◌}
 use lib.Dec.{T}
-use Rattle.binary32.proofs.Nan.{not_nan}
 use Rattle.same.proofs.Comparing.{first-nan, second-nan, by_bits}
 use Rattle.same.proofs.same_float.Goals as goal
 
-pub returns-then-a : goal.returns-then-a
-returns-then-a c = first-nan _ _ c.if-a.true
+pub returns-then-is_nan : goal.returns-then-is_nan
+returns-then-is_nan c = c.is_nan-then-is_nan.ensures.value ∙ first-nan c.args.a c.args.b (sym c.is_nan.ensures.value ∙ c.if-is_nan.true)
 
-pub returns-then-b : goal.returns-then-b
-returns-then-b c = second-nan _ _ c.if-a.false c.if-b.true
-
-pub float_to_bits-result : goal.float_to_bits-result
-float_to_bits-result c = not_nan _ c.if-a.false
-
-pub float_to_bits-result-2 : goal.float_to_bits-result-2
-float_to_bits-result-2 c = not_nan _ c.if-b.false
+pub returns-then-is_nan-2 : goal.returns-then-is_nan-2
+returns-then-is_nan-2 c = second-nan c.args.a c.args.b (sym c.is_nan.ensures.value ∙ c.if-is_nan.false) (sym c.is_nan-2.ensures.value ∙ c.if-is_nan-2.true)
 
 pub returns : goal.returns
-returns c =
-    let z = c in
-    by_bits z.args.a z.args.b (subst T (sym z.well_formed.0.1) tt) (subst T (sym z.well_formed.1.0.1) tt)
+returns c = by_bits c.args.a c.args.b (subst T (sym c.well_formed.0.1) tt) (subst T (sym c.well_formed.1.0.1) tt)

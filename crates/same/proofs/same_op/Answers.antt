@@ -1,9 +1,14 @@
 -- `same::same_op` meets its contract.
--- The kinds and the cells that it compares are those of the two ops.
+-- Of one kind, ops agree where their cells do.
+use mathlib.Core.Path.{◌≡◌}
+use borrow.Author.Tests.{eq-eqb}
+use Rattle.parts.specs.Parts.{kind_of}
 use Rattle.same.proofs.Comparing.{by_cells}
 use Rattle.same.proofs.same_op.Goals as goal
 
-pub returns : goal.returns
-returns c =
-    let q = c in
-    rw (c.same_cells.ensures, q.parts_of-q.ensures, q.parts_of-p.ensures) (by_cells q.args.a q.args.b)
+pub returns-then-p-q : goal.returns-then-p-q
+returns-then-p-q c =
+    let a = c.args.a in
+    let b = c.args.b in
+    let k : kind_of a ≡ kind_of b = rw (c.parts_of-p.ensures, c.parts_of-q.ensures) at c.if-p-q.true in
+    rw (← by_cells a b, eq-eqb (kind_of a) (kind_of b) k) (rw (c.parts_of-p.ensures, c.parts_of-q.ensures) at c.same_cells.ensures)

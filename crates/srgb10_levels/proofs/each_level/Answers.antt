@@ -11,27 +11,6 @@ use Rattle.srgb10_levels.specs.Levels.{divided_level}
 use Rattle.srgb10_levels.proofs.Codes.{is_code}
 use Rattle.srgb10_levels.proofs.each_level.Goals as goal
 
-pub offset_bounds-codes-i : goal.offset_bounds-codes-i
-offset_bounds-codes-i c = omega arith
-
-pub bounds-codes-i : goal.bounds-codes-i
-bounds-codes-i c = omega arith
-
-pub offset_bounds-levels-i : goal.offset_bounds-levels-i
-offset_bounds-levels-i c = omega arith
-
-pub bounds-levels-i : goal.bounds-levels-i
-bounds-levels-i c = omega arith
-
-pub overflow_add-i : goal.overflow_add-i
-overflow_add-i c = omega arith
-
-pub loop-i-smaller : goal.loop-i-smaller
-loop-i-smaller c = omega arith
-
-pub shape_of-levels : goal.shape_of-levels
-shape_of-levels c = c.loop-i.invariant.long
-
 pub returns : goal.returns
 returns c = ended c.loop-i.invariant (omega arith)
 
@@ -41,13 +20,10 @@ loop-i-init c =
 
 pub divided_level-requires : goal.divided_level-requires
 divided_level-requires c =
-    let l = c in
-    let e = l in
-    let z = e in record { whole = e.entries-table.ensures; code_bound = is_code c.args.codes.now c.requires.codes_value l.loop-i.i (omega arith) }
+    record { whole = c.entries-table.ensures; code_bound = is_code c.args.codes.now c.requires.codes_value c.loop-i.i (omega arith) }
 
 pub loop-i-preserved : goal.loop-i-preserved
 loop-i-preserved c =
     let l = c in
-    let z = l in
     let h : l.loop-i.i < length c.args.levels.now = omega arith in
     write l.loop-i.invariant nan _ h (c.divided_level.ensures ∙ sym (map_at divided_level c.args.codes.now l.loop-i.i 0 nan (omega (arith, c.requires.codes_len))))

@@ -1,58 +1,28 @@
 -- `rgb_each` converts each triple.
 -- Piece by piece is as place by place (`Pieces`), for the function `rgb_by k`; the room for a piece keeps its length.
-use Rattle.std.proofs.Common.{◌-◌, sym, refl, ◌∙◌, arith, lit<}
-use borrow.Rule.Slice.PartMut.{same_len_mid}
-use Rattle.channels.proofs.InStep.{steps_begun, steps-ended}
-use Rattle.channels.proofs.Pieces.{length-piece, next_piece, pieces-even, room, stepped-piece}
+use Rattle.std.proofs.Common.{◌+◌, ◌*◌, ◌<◌, ◌≤◌, ◌≡◌, refl, length, arith}
+use Prim.Native.Nat.{min}
+use Rattle.channels.proofs.InStep.{at_place, steps_begun}
+use Rattle.channels.proofs.Pieces.{room_kept, stepped-piece}
 use Rattle.ycbcr.specs.Ycbcr.{rgb_by}
 use Rattle.ycbcr.proofs.rgb_each.Goals as goal
 
-pub loop-j-smaller : goal.loop-j-smaller
-loop-j-smaller c =
-    let n = c.next_piece-m in
-    (next_piece 256 c.loop-j.j _ n.result (lit< tt) c.loop-j-test.true n.ensures).falls
+pub loop-i-init : goal.loop-i-init
+loop-i-init c = (at_place (omega arith) (steps_begun (rgb_by c.args.k) _ _ _ c.requires.equally_long), refl, refl, refl)
 
-pub shape_of-cb : goal.shape_of-cb
-shape_of-cb c = c.loop-j.invariant.1.on_r.long
-
-pub shape_of-y : goal.shape_of-y
-shape_of-y c = c.loop-j.invariant.1.on_g.long
-
-pub shape_of-cr : goal.shape_of-cr
-shape_of-cr c = c.loop-j.invariant.1.on_b.long
-
-pub returns : goal.returns
-returns c = steps-ended c.loop-j.invariant.1 (omega arith)
-
-pub loop-j-init : goal.loop-j-init
-loop-j-init c = (refl, steps_begun (rgb_by c.args.k) _ _ _ c.requires.equally_long, refl, refl, refl)
-
-pub converted-requires : goal.converted-requires
-converted-requires c =
-    let l = c.loop-j in
+pub loop-i-preserved : goal.loop-i-preserved
+loop-i-preserved c =
+    let l = c.loop-i in
     let v = l.invariant in
-    let n = c.next_piece-m in
-    let m = n.result in
-    let g = next_piece 256 l.j _ m (lit< tt) c.loop-j-test.true n.ensures in
-    let h = g.fits in
-    let e = sym (length-piece v.1.on_r m h) in
-    record {
-      factors = c.requires.factors;
-      equally_long = pieces-even v.1 m h;
-      p_len = (room l.p m v.2 g.few ∙ e, room l.q m v.3 g.few ∙ e, room l.r m v.4 g.few ∙ e);
-    }
-
-pub loop-j-preserved : goal.loop-j-preserved
-loop-j-preserved c =
-    let l = c.loop-j in
-    let v = l.invariant in
-    let n = c.next_piece-m in
-    let m = n.result in
-    let h = (next_piece 256 l.j _ m (lit< tt) c.loop-j-test.true n.ensures).fits in
-    let t = c.converted in (
-      v.0,
-      stepped-piece v.1 m h t.new.cb t.new.y t.new.cr t.ensures,
-      same_len_mid 0 (m - 0) l.p t.new.p t.auto.p ∙ v.2,
-      same_len_mid 0 (m - 0) l.q t.new.q t.auto.q ∙ v.3,
-      same_len_mid 0 (m - 0) l.r t.new.r t.auto.r ∙ v.4,
+    let t = c.converted in
+    let m = c.next_piece-m.result in
+    let n = length c.args.cb.now in
+    let below : 256 * l.i < n = omega arith in
+    let here : min (256 * l.i) n ≡ 256 * l.i = omega (arith, below) in
+    let fits : 256 * l.i + m ≤ n = omega (arith, below, c.next_piece-m.ensures) in
+    let next : 256 * l.i + m ≡ min (256 * (l.i + 1)) n = omega (arith, below, c.next_piece-m.ensures) in (
+      at_place next (stepped-piece (at_place here v.0) m fits t.new.cb t.new.y t.new.cr t.ensures),
+      room_kept l.p t.new.p m v.1 t.auto.p,
+      room_kept l.q t.new.q m v.2 t.auto.q,
+      room_kept l.r t.new.r m v.3 t.auto.r,
     )

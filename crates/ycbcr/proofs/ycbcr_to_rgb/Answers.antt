@@ -1,5 +1,5 @@
 -- `ycbcr_to_rgb` converts each triple where `judge` lets it, and changes nothing where it does not.
--- The answer Done gives the lengths; the constants are those of the firmware's weights, and of the window (`Factors`).
+-- The answer Ok gives the lengths; the constants are those of the firmware's weights, and of the window (`Factors`).
 use Rattle.std.proofs.Common.{sym, ap, ◌∙◌, subst}
 use Rattle.ycbcr.specs.Ycbcr.{constants_of}
 use Rattle.ycbcr.specs.Steps.{Factors}

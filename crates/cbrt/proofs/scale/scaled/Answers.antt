@@ -16,20 +16,8 @@ a-left c =
 below-512 : {p : ℕ} → p ≤ 253 → p < 512
 below-512 h = omega arith
 
-pub overflow_mul-third : goal.overflow_mul-third
-overflow_mul-third c = omega arith
-
-pub overflow_sub-left : goal.overflow_sub-left
-overflow_sub-left c = omega arith
-
-pub overflow_sub-left-2 : goal.overflow_sub-left-2
-overflow_sub-left-2 c = omega arith
-
 pub overflow_shl-g-2 : goal.overflow_shl-g-2
 overflow_shl-g-2 c = left_lt _ _ c.requires.2 (omega arith) (omega arith)
-
-pub overflow_add-a : goal.overflow_add-a
-overflow_add-a c = omega arith
 
 pub loop-g-init : goal.loop-g-init
 loop-g-init c =
@@ -37,11 +25,6 @@ loop-g-init c =
     let p = c.args.place in
     let k = below-512 c.requires.2 in
     (shift-lt d p c.requires.1 k, omega arith, shift_same d p c.requires.1 k)
-
-pub returns : goal.returns
-returns c =
-    let i = c.loop-g.invariant in
-    record { g_ge = c.loop-g-test.false; g_lt = i.0; a_le = i.1; same = i.2 }
 
 pub overflow_sub-a : goal.overflow_sub-a
 overflow_sub-a c = a-left (goal.at.overflow_sub-a c).In-loop-g

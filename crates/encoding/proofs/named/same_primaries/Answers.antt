@@ -1,6 +1,8 @@
 -- `encoding::named::same_primaries` meets its contract.
--- It compares what `same_primaries` compares.
+-- The derived comparison is the test of Named.
+use mathlib.Core.Path.{◌∙◌}
+use Rattle.encoding.proofs.Derived.{primaries-same}
 use Rattle.encoding.proofs.named.same_primaries.Goals as goal
 
 pub returns : goal.returns
-returns c = rw (← c.primaries_number.ensures, ← c.primaries_number-2.ensures, ← c.custom_corners.ensures, ← c.custom_corners-2.ensures, ← c.same_corners.ensures)
+returns c = c.eq.ensures ∙ primaries-same c.args.primaries c.args.other

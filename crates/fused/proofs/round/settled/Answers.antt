@@ -5,4 +5,4 @@ use Rattle.fused.proofs.Settled.{settle}
 use Rattle.fused.proofs.round.settled.Goals as goal
 
 pub returns : goal.returns
-returns c = c.rounded.ensures ∙ settle _ _ _ _ _ c.top-x.ensures
+returns c = rw c.top.ensures.sign at c.rounded.ensures ∙ settle _ _ _ _ _ c.top.ensures.size

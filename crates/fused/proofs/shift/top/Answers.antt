@@ -8,23 +8,14 @@ use lib.Count.{count_leading_zeros}
 use Rattle.fused.proofs.Shifts.{lead}
 use Rattle.fused.proofs.shift.top.Goals as goal
 
-pub overflow_cast-z : goal.overflow_cast-z
-overflow_cast-z c = omega (arith, (lead _ c.requires.0 c.requires.1).most)
-
 pub overflow_sub-z : goal.overflow_sub-z
 overflow_sub-z c = (lead _ c.requires.0 c.requires.1).two
 
-pub overflow_shl-result : goal.overflow_shl-result
-overflow_shl-result c = omega (arith, (lead _ c.requires.0 c.requires.1).most)
-
-pub overflow_sub-result : goal.overflow_sub-result
-overflow_sub-result c = omega (arith, (lead _ c.requires.0 c.requires.1).most)
-
-pub returns : goal.returns
-returns c =
-    let l = lead c.args.n c.requires.0 c.requires.1 in
+pub returns-clause-size : goal.returns-clause-size
+returns-clause-size c =
+    let l = lead c.args.x.m c.requires.0 c.requires.1 in
     record {
-      z = count_leading_zeros 64 c.args.n - 2;
+      z = count_leading_zeros 64 c.args.x.m - 2;
       m_ge = le_trans l.ge (le_of_eq (sym l.same));
       m_lt = lt_of_le_of_lt (le_of_eq l.same) l.lt;
       m_is = l.same;

@@ -1,26 +1,13 @@
 -- `whole::added` is the fused product and sum.
 -- Where all three are finite, their digits and places go into `added`; else the laws of `Special` answer.
-use mathlib.Core.Path.{subst, sym, ◌∙◌, ◌≡◌}
-use mathlib.Core.Bool.{Bool, not}
-use Prim.Native.Nat.{ℕ}
+use mathlib.Core.Path.{subst, sym, ◌∙◌}
 use native.Mathlib.Omega.{arith}
 use lib.Dec.{T}
-use lib.Ieee.{Float, fin, inf, nan}
-use lib.Ieee.Scale.{finite}
-use Rattle.binary32.proofs.Apart.{IsFinite, finite_of, is_finite}
-use Rattle.binary32.specs.Parts.{parts_of}
-use Rattle.binary32.specs.declared.Parts.{Parts}
-use Rattle.binary32.specs.declared.Parts.TheVariants.{Finite}
+use Rattle.binary32.proofs.Apart.{IsFinite, finite_of, is_finite, not_finite}
 use Rattle.fused.proofs.Product.{by_digits, product_lt}
 use Rattle.fused.proofs.Special.{first-inf, second-inf, third-inf}
 use Rattle.fused.proofs.whole.added.Goals.{In-Finite, In-Finite-take_apart, In-Finite-take_apart-2}
 use Rattle.fused.proofs.whole.added.Goals as goal
-
--- a float whose parts are not `Finite`
-not_finite : (x : Float) (p : Parts) → p ≡ parts_of x → ((s : Bool) (d k : ℕ) → p ≡ Finite s d k → ⊥) → T (not (finite x))
-not_finite nan p e h = tt
-not_finite (inf s) p e h = tt
-not_finite (fin s m n) p e h = absurd (h _ _ _ e)
 
 -- the three as their digits and places; that the format holds an f32 is told by owning it
 first : (c : In-Finite) → IsFinite c.args.a c.in-Finite.s c.in-Finite.m c.in-Finite.i
@@ -44,19 +31,19 @@ returns-in_default-take_apart-2 c =
     third-inf _ _ _ (finite_of (first z.In-Finite)) (finite_of (second z.In-Finite-take_apart))
     (not_finite c.args.c _ c.take_apart-3.ensures c.in_default-take_apart-2.not-Finite)
 
-pub overflow_mul-m : goal.overflow_mul-m
-overflow_mul-m c =
-    let z = goal.at.overflow_mul-m c in
+pub overflow_mul-product : goal.overflow_mul-product
+overflow_mul-product c =
+    let z = goal.at.overflow_mul-product c in
     omega (arith, product_lt _ _ (first z.In-Finite).few (second z.In-Finite-take_apart).few)
 
-pub overflow_add-i : goal.overflow_add-i
-overflow_add-i c =
-    let z = goal.at.overflow_add-i c in
+pub overflow_add-product : goal.overflow_add-product
+overflow_add-product c =
+    let z = goal.at.overflow_add-product c in
     omega (arith, (first z.In-Finite).bounded, (second z.In-Finite-take_apart).bounded)
 
-pub overflow_add-k : goal.overflow_add-k
-overflow_add-k c =
-    let z = goal.at.overflow_add-k c in
+pub overflow_add-addend : goal.overflow_add-addend
+overflow_add-addend c =
+    let z = goal.at.overflow_add-addend c in
     omega (arith, (third z.In-Finite-take_apart-2).bounded)
 
 pub added-requires : goal.added-requires

@@ -17,24 +17,6 @@ loop-i-init c =
     let k : length c.args.f ≡ 9 = search rules in
     (k, map-begun float_cell c.args.f _ (sym k))
 
-pub offset_bounds-f-i : goal.offset_bounds-f-i
-offset_bounds-f-i c = omega arith
-
-pub bounds-f-i : goal.bounds-f-i
-bounds-f-i c = omega arith
-
-pub offset_bounds-cells-i : goal.offset_bounds-cells-i
-offset_bounds-cells-i c = omega arith
-
-pub bounds-cells-i : goal.bounds-cells-i
-bounds-cells-i c = omega arith
-
-pub overflow_add-i : goal.overflow_add-i
-overflow_add-i c = omega arith
-
-pub loop-i-smaller : goal.loop-i-smaller
-loop-i-smaller c = omega arith
-
 pub loop-i-preserved : goal.loop-i-preserved
 loop-i-preserved c =
     let v = c.loop-i.invariant in

@@ -1,6 +1,5 @@
 -- `apart::floats` meets its contract.
 -- The zeros are rewritten by the floats, cell by cell.
-use Prim.Native.Nat.{◌-◌}
 use mathlib.Core.Path.{◌≡◌}
 use mathlib.Core.List.{map}
 use lib.ListN.{length}
@@ -10,6 +9,3 @@ use Rattle.parts.proofs.apart.floats.Given as goal
 
 abbrev pub invariant-loop-i : goal.invariant-loop-i
 invariant-loop-i l = (length l.f ≡ 9) × Rewritten (map float_cell l.f) l.initial.cells l.i l.cells
-
-abbrev pub decreases-loop-i : goal.decreases-loop-i
-decreases-loop-i l = 9 - l.i

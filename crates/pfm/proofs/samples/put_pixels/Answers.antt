@@ -1,11 +1,7 @@
 -- `put_pixels` puts the bytes of each pixel.
 -- The loop argument is `Laying`'s, for the triples of the samples.
-use Prim.Native.Nat.{◌<◌, ◌≤◌}
-use mathlib.Core.Path.{◌≡◌, ◌∙◌}
-use mathlib.Core.Bool.{Bool}
-use native.Mathlib.Omega.{arith}
+use Rattle.std.proofs.Common.{◌≡◌, ◌≤◌, ◌∙◌, Bool, length, length-append, arith}
 use lib.Ieee.{Float, binary32, nan, to_bits}
-use lib.ListN.{length, length-append}
 use Rattle.ciexyz.specs.declared.Vec3.{Vec3}
 use Rattle.channels.specs.Channels.{vec}
 use Rattle.pfm.specs.Samples.{pixel_bytes, sample_bytes}
@@ -17,47 +13,19 @@ twelve little v =
     let one : (x : Float) → length (sample_bytes little x) ≡ 4 = λ x. four little (to_bits binary32 x) in
     length-append (sample_bytes little v.v0) _ ∙ omega (arith, one v.v0, one v.v1, one v.v2, length-append (sample_bytes little v.v1) (sample_bytes little v.v2))
 
-pub offset_bounds-a-i : goal.offset_bounds-a-i
-offset_bounds-a-i c = omega arith
-
-pub bounds-a-i : goal.bounds-a-i
-bounds-a-i c = omega arith
-
-pub offset_bounds-b-i : goal.offset_bounds-b-i
-offset_bounds-b-i c = omega arith
-
-pub bounds-b-i : goal.bounds-b-i
-bounds-b-i c = omega arith
-
-pub offset_bounds-c-i : goal.offset_bounds-c-i
-offset_bounds-c-i c = omega arith
-
-pub bounds-c-i : goal.bounds-c-i
-bounds-c-i c = omega arith
-
-pub overflow_add-i : goal.overflow_add-i
-overflow_add-i c = omega arith
-
-pub loop-i-smaller : goal.loop-i-smaller
-loop-i-smaller c = omega arith
-
-pub shape_of-out : goal.shape_of-out
-shape_of-out c = c.loop-i.invariant.same
-
 pub loop-i-init : goal.loop-i-init
-loop-i-init c = rows_start vec (pixel_bytes c.args.little) 12 (twelve c.args.little) nan c.args.a.now c.args.b.now c.args.c.now c.requires.equally_long.0 c.requires.equally_long.1 c.args.out.now c.requires.out_len
-
-pub put_pixel-at-requires : goal.put_pixel-at-requires
-put_pixel-at-requires c =
-    let h : c.loop-i.i < length c.args.a.now = omega arith in
-    row_room vec (pixel_bytes c.args.little) 12 (twelve c.args.little) nan c.args.a.now c.args.b.now c.args.c.now c.requires.equally_long.0 c.requires.equally_long.1 c.args.out.now c.requires.out_len c.loop-i.invariant h
+loop-i-init c =
+    rows_start vec (pixel_bytes c.args.little) 12 (twelve c.args.little) nan c.args.a.now c.args.b.now c.args.c.now c.requires.equally_long.0 c.requires.equally_long.1
+    c.args.out.now c.requires.out_len
 
 pub loop-i-preserved : goal.loop-i-preserved
 loop-i-preserved c =
-    let h : c.loop-i.i < length c.args.a.now = omega arith in
-    rows-again vec (pixel_bytes c.args.little) 12 (twelve c.args.little) nan c.args.a.now c.args.b.now c.args.c.now c.requires.equally_long.0 c.requires.equally_long.1 c.args.out.now c.requires.out_len c.loop-i.invariant h c.put_pixel-at.ensures
+    let o = row_room vec (pixel_bytes c.args.little) 12 (twelve c.args.little) nan c.args.a.now c.args.b.now c.args.c.now c.requires.equally_long.0 c.requires.equally_long.1 c.args.out.now c.requires.out_len c.loop-i.invariant c.loop-i-test.true in
+    rows-again vec (pixel_bytes c.args.little) 12 (twelve c.args.little) nan c.args.a.now c.args.b.now c.args.c.now c.requires.equally_long.0 c.requires.equally_long.1
+    c.args.out.now c.requires.out_len c.loop-i.invariant c.loop-i-test.true ((rw c.pixel_bytes.ensures at c.put-at.ensures.whole) o)
 
 pub returns : goal.returns
 returns c =
     let h : length c.args.a.now ≤ c.loop-i.i = omega arith in
-    rows_end vec (pixel_bytes c.args.little) 12 (twelve c.args.little) nan c.args.a.now c.args.b.now c.args.c.now c.requires.equally_long.0 c.requires.equally_long.1 c.args.out.now c.requires.out_len c.loop-i.invariant h
+    rows_end vec (pixel_bytes c.args.little) 12 (twelve c.args.little) nan c.args.a.now c.args.b.now c.args.c.now c.requires.equally_long.0 c.requires.equally_long.1
+    c.args.out.now c.requires.out_len c.loop-i.invariant h

@@ -4,9 +4,6 @@ use Rattle.stages.specs.Stages.{limit_op, to_xyz_op, adapt_ops, from_xyz_op}
 use Rattle.stages.proofs.Appending.{around}
 use Rattle.stages.proofs.conversion.convert.Goals as goal
 
-pub returns-then-not-differs : goal.returns-then-not-differs
-returns-then-not-differs c = rw (← c.differs.ensures, c.if-not-differs.true) c.kept.ensures
-
 pub returns : goal.returns
 returns c =
     let a = c.args in

@@ -4,9 +4,6 @@ use mathlib.Core.List.{[], ◌∷◌}
 use Rattle.list.proofs.Building.{appended-append}
 use Rattle.stages.proofs.tone.inverse_ootf.Goals as goal
 
-pub returns-then-near_thousand : goal.returns-then-near_thousand
-returns-then-near_thousand c = rw (← c.near_thousand.ensures, c.if-near_thousand.true) c.kept.ensures
-
 pub returns : goal.returns
 returns c =
     rw (← c.near_thousand.ensures, c.if-near_thousand.false, c.push.ensures, c.push-mapped.ensures, c.hdr_params.ensures, c.tone_map_op.ensures, c.hdr_params-from.ensures, c.own_luminances-luminances.ensures)

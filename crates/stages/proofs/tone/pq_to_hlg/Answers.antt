@@ -5,9 +5,6 @@ use Rattle.list.proofs.Building.{appended-append}
 use Rattle.stages.specs.Stages.{inverse_ootf_ops, gamut_map_ops}
 use Rattle.stages.proofs.tone.pq_to_hlg.Goals as goal
 
-pub returns-then-not-is_pq_to_hlg : goal.returns-then-not-is_pq_to_hlg
-returns-then-not-is_pq_to_hlg c = rw (← c.is_pq_to_hlg.ensures, c.if-not-is_pq_to_hlg.true) c.kept.ensures
-
 pub returns : goal.returns
 returns c =
     let a = c.args in

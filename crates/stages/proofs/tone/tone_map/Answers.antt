@@ -4,9 +4,6 @@ use mathlib.Core.List.{[], ◌∷◌}
 use Rattle.list.proofs.Building.{appended-append}
 use Rattle.stages.proofs.tone.tone_map.Goals as goal
 
-pub returns-then-not-is_tone_mapped : goal.returns-then-not-is_tone_mapped
-returns-then-not-is_tone_mapped c = rw (← c.is_tone_mapped.ensures, c.if-not-is_tone_mapped.true) c.kept.ensures
-
 pub returns : goal.returns
 returns c =
     rw (← c.is_tone_mapped.ensures, c.if-not-is_tone_mapped.false, c.gamut_map.ensures, c.push-mapped.ensures, c.tone_map_op.ensures, c.hdr_params-hdr_params.ensures, c.own_luminances.ensures)

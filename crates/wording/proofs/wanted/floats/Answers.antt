@@ -6,4 +6,4 @@ use Rattle.wording.proofs.wanted.floats.Goals as goal
 
 pub returns : goal.returns
 unfolding floats_of neg of_bits
-returns c = rw (c.float.ensures, c.given.ensures, c.float-2.ensures, c.given-2.ensures)
+returns c = rw (c.float.ensures, c.unwrap_or.ensures, c.float-2.ensures, c.unwrap_or-2.ensures)

@@ -1,14 +1,16 @@
 -- `laying::put_ops` meets its contract.
--- The invariant: what is left to put is the bytes of the ops that remain, and none of these is bad.
-use Prim.Native.Nat.{◌-◌, ◌≤◌}
+-- The invariant: with the bytes of the ops that remain, none of which is bad, all are put.
+use Rattle.std.proofs.Common.{◌≡◌, ◌+◌, ◌≤◌, ◌++◌, false, map, length, drop}
+use Rattle.notation.specs.Several.{any}
+use Rattle.arrayvec.specs.ArrayVec.{array_vec_len}
 use Rattle.list.specs.Lists.{op_of}
-use Rattle.writer.specs.Bytes.{op_bytes}
+use Rattle.writer.specs.Bytes.{op_bytes, joined}
 use Rattle.writer.specs.Writing.{bad_op}
-use Rattle.writer.proofs.Walking.{Going}
 use Rattle.writer.proofs.laying.put_ops.Given as goal
 
-abbrev pub invariant-loop-i : goal.invariant-loop-i
-invariant-loop-i l = (l.i ≤ l.count) × Going op_of l.count l.slots op_bytes bad_op l.initial.out l.at l.out l.next l.i
-
-abbrev pub decreases-loop-i : goal.decreases-loop-i
-decreases-loop-i l = l.count - l.i
+abbrev pub invariant-loop-slot : goal.invariant-loop-slot
+invariant-loop-slot l = record {
+  bytes : l.out.items ++ joined op_bytes (map op_of (drop l.slot-index l.ops)) ≡ l.initial.out.items ++ joined op_bytes (map op_of l.ops);
+  room : array_vec_len l.out + length (joined op_bytes (map op_of (drop l.slot-index l.ops))) ≤ 1192;
+  good : any bad_op (map op_of (drop l.slot-index l.ops)) ≡ false;
+}

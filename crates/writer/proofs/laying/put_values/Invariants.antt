@@ -1,14 +1,16 @@
 -- `laying::put_values` meets its contract.
--- The invariant: what is left to put is the bytes of the values that remain, and none of these is bad.
-use Prim.Native.Nat.{◌-◌, ◌≤◌}
+-- The invariant: with the bytes of the values that remain, none of which is bad, all are put.
+use Rattle.std.proofs.Common.{◌≡◌, ◌+◌, ◌≤◌, ◌++◌, false, map, length, drop}
+use Rattle.notation.specs.Several.{any}
+use Rattle.arrayvec.specs.ArrayVec.{array_vec_len}
 use Rattle.parts.specs.Parts.{value_of}
-use Rattle.writer.specs.Bytes.{value_bytes}
+use Rattle.writer.specs.Bytes.{value_bytes, joined}
 use Rattle.writer.specs.Writing.{bad_value}
-use Rattle.writer.proofs.Walking.{Going}
 use Rattle.writer.proofs.laying.put_values.Given as goal
 
-abbrev pub invariant-loop-i : goal.invariant-loop-i
-invariant-loop-i l = (l.i ≤ l.count) × Going value_of l.count l.cells value_bytes bad_value l.initial.out l.at l.out l.next l.i
-
-abbrev pub decreases-loop-i : goal.decreases-loop-i
-decreases-loop-i l = l.count - l.i
+abbrev pub invariant-loop-cell : goal.invariant-loop-cell
+invariant-loop-cell l = record {
+  bytes : l.out.items ++ joined value_bytes (map value_of (drop l.cell-index l.cells)) ≡ l.initial.out.items ++ joined value_bytes (map value_of l.cells);
+  room : array_vec_len l.out + length (joined value_bytes (map value_of (drop l.cell-index l.cells))) ≤ 1192;
+  good : any bad_value (map value_of (drop l.cell-index l.cells)) ≡ false;
+}

@@ -1,9 +1,7 @@
 -- `shift` takes the roots off, and says whether all that is left is in the window.
 -- The loop argument is `Rewriting`'s for each channel; the test holds for every place that was passed.
-use Prim.Native.Nat.{◌-◌}
 use mathlib.Core.Path.{◌≡◌}
 use mathlib.Core.Bool.{true}
-use lib.ListN.{length}
 use Rattle.notation.proofs.Rewriting.{Rewritten}
 use Rattle.channels.specs.Channels.{channels, each}
 use Rattle.xyb.specs.Steps.{shifted}
@@ -12,7 +10,4 @@ use Rattle.xyb.proofs.piece.shift.Given as goal
 
 abbrev pub invariant-loop-i : goal.invariant-loop-i
 invariant-loop-i l = let R = each (shifted l.roots) (channels l.x l.y l.b) in
-    (l.n ≡ length l.x) × Rewritten R.a l.initial.p l.i l.p × Rewritten R.b l.initial.q l.i l.q × Rewritten R.c l.initial.r l.i l.r × (l.within ≡ true → Before l.i R.a × Before l.i R.b × Before l.i R.c)
-
-abbrev pub decreases-loop-i : goal.decreases-loop-i
-decreases-loop-i l = length l.x - l.i
+    Rewritten R.a l.initial.p l.i l.p × Rewritten R.b l.initial.q l.i l.q × Rewritten R.c l.initial.r l.i l.r × (l.within ≡ true → Before l.i R.a × Before l.i R.b × Before l.i R.c)

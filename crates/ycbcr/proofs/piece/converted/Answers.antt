@@ -13,13 +13,13 @@ use Rattle.ycbcr.proofs.piece.converted.Goals as goal
 offset : (k : Constants) (x y z : List Float) {v : List Float} → v ≡ map raised y → each (rgb_raised k) (channels x v z) ≡ each (rgb_by k) (channels x y z)
 offset k x y z e = ap (λ (t : List Float). each (rgb_raised k) (channels x t z)) e ∙ each-raised k x y z
 
-pub returns-then-keep : goal.returns-then-keep
-returns-then-keep c =
+pub returns-then-ready : goal.returns-then-ready
+returns-then-ready c =
     let a = c.args in
-    c.by_blocks.ensures ∙ offset a.k a.cb.now a.y.now a.cr.now c.keep.ensures.y_after
+    c.by_blocks.ensures ∙ offset a.k a.cb.now a.y.now a.cr.now c.keep-ready.ensures.y_after
 
-pub returns-else-keep : goal.returns-else-keep
-returns-else-keep c =
+pub returns-else-ready : goal.returns-else-ready
+returns-else-ready c =
     let a = c.args in
-    let k = c.keep.ensures in
+    let k = c.keep-ready.ensures in
     c.each_alone.ensures ∙ ap (each (rgb_raised a.k)) k.r_after ∙ offset a.k a.cb.now a.y.now a.cr.now k.y_after

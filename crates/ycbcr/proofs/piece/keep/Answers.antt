@@ -14,7 +14,7 @@ loop-i-init c =
     let y = c.args.y.now in
     let e = c.requires.equally_long in
     let l = c.requires.p_len in
-    (refl, map-begun raised y y refl, begun _ _ (sym l.0), map-begun raised y _ (l.1 ∙ sym e.0), begun _ _ (e.1 ∙ sym l.2), λ j h. absurd (omega arith))
+    (map-begun raised y y refl, begun _ _ (sym l.0), map-begun raised y _ (l.1 ∙ sym e.0), begun _ _ (e.1 ∙ sym l.2), λ j h. absurd (omega arith))
 
 pub loop-i-preserved : goal.loop-i-preserved
 unfolding raised
@@ -24,37 +24,24 @@ loop-i-preserved c =
     let v = t.invariant in
     let i = t.i in
     let h : i < length a.y.now = omega arith in
-    let e : raised (get_or t.y i nan) ≡ get_or (map raised a.y.now) i nan = ap raised (read v.1 nan h) ∙ sym (map_at raised a.y.now i nan nan h) in
+    let e : raised (get_or t.y i nan) ≡ get_or (map raised a.y.now) i nan = ap raised (read v.0 nan h) ∙ sym (map_at raised a.y.now i nan nan h) in
     let n = c.any_of-any in
     let m = c.all_of-all in
     let s = vec (get_or a.cb.now i nan) (raised (get_or t.y i nan)) (get_or a.cr.now i nan) in (
-      v.0,
-      write v.1 nan _ h e,
-      write v.2 nan _ (omega arith) refl,
-      write v.3 nan _ (omega arith) e,
-      write v.4 nan _ (omega arith) refl,
-      below_more _ i (λ j l. still-shown t.any t.all s n.result m.result n.ensures.value m.ensures _ (v.5 j l))
+      write v.0 nan _ h e,
+      write v.1 nan _ (omega arith) refl,
+      write v.2 nan _ (omega arith) e,
+      write v.3 nan _ (omega arith) refl,
+      below_more _ i (λ j l. still-shown t.any t.all s n.result m.result n.ensures.value m.ensures _ (v.4 j l))
           (subst (λ (x : Float). AllShown n.result m.result (vec (get_or a.cb.now i nan) x (get_or a.cr.now i nan))) e (now-shown t.any t.all s n.result m.result n.ensures.value m.ensures n.ensures.single)),
     )
-
-pub shape_of-y : goal.shape_of-y
-shape_of-y c = c.loop-i.invariant.1.long
-
-pub shape_of-p : goal.shape_of-p
-shape_of-p c = c.loop-i.invariant.2.long
-
-pub shape_of-q : goal.shape_of-q
-shape_of-q c = c.loop-i.invariant.3.long
-
-pub shape_of-r : goal.shape_of-r
-shape_of-r c = c.loop-i.invariant.4.long
 
 pub returns : goal.returns
 returns c =
     let v = c.loop-i.invariant in
-    let y = ended v.1 (omega arith) in
+    let y = ended v.0 (omega arith) in
     record {
       y_after = y;
-      r_after = rw (y, ended v.2 (omega arith), ended v.3 (omega arith), ended v.4 (omega arith));
-      all_ready = λ e j h. rw y (ready_within _ _ _ (c.are_within.ensures e) (v.5 j (omega arith)));
+      r_after = rw (y, ended v.1 (omega arith), ended v.2 (omega arith), ended v.3 (omega arith));
+      all_ready = λ e j h. rw y (ready_within _ _ _ (c.are_within.ensures e) (v.4 j (omega arith)));
     }

@@ -1,6 +1,6 @@
 -- `keep` puts the offset on the luma, copies the three channels, and says whether every pixel is ready.
 -- The loop argument is `Rewriting`'s for the offset and for the copies; the digits show every pixel that was passed (`Patterns`).
-use Rattle.std.proofs.Common.{◌≡◌, ℕ, ◌-◌, ◌<◌, map, length, get_or}
+use Rattle.std.proofs.Common.{ℕ, ◌<◌, map, get_or}
 use lib.Ieee.{nan}
 use Rattle.notation.proofs.Rewriting.{Rewritten}
 use Rattle.channels.specs.Channels.{vec}
@@ -10,8 +10,5 @@ use Rattle.ycbcr.proofs.piece.keep.Given as goal
 
 abbrev pub invariant-loop-i : goal.invariant-loop-i
 invariant-loop-i l = let luma = map raised l.initial.y in
-    (l.n ≡ length l.cb) × Rewritten luma l.initial.y l.i l.y × Rewritten l.cb l.initial.p l.i l.p × Rewritten luma l.initial.q l.i l.q × Rewritten l.cr l.initial.r l.i l.r
+    Rewritten luma l.initial.y l.i l.y × Rewritten l.cb l.initial.p l.i l.p × Rewritten luma l.initial.q l.i l.q × Rewritten l.cr l.initial.r l.i l.r
     × ((j : ℕ) → j < l.i → AllShown l.any l.all (vec (get_or l.cb j nan) (get_or luma j nan) (get_or l.cr j nan)))
-
-abbrev pub decreases-loop-i : goal.decreases-loop-i
-decreases-loop-i l = length l.cb - l.i

@@ -1,0 +1,2 @@
+-- What came of a program's input.
+pub mod SoFar

@@ -1,9 +1,0 @@
--- `stages::decoding::decoded` meets its contract.
--- Each return follows the test that led to it.
-use Rattle.stages.proofs.decoding.decoded.Goals as goal
-
-pub returns-then-same_colour_space : goal.returns-then-same_colour_space
-returns-then-same_colour_space c = rw (← c.same_colour_space.ensures, c.if-same_colour_space.true)
-
-pub returns : goal.returns
-returns c = rw (← c.same_colour_space.ensures, c.if-same_colour_space.false)
