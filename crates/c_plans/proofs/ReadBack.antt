@@ -1,5 +1,5 @@
 -- What was sent is read back as that list, and a plan as the planned list, so that a call on its block speaks of it; and a block written again is the same.
--- A list that was sent was written whole (Sending), and what is written is read back (`roundtrip`); a planned list is its ops, with Clip past them.
+-- A list that was sent was written whole (Sending), and what is written is read back (`theorem_roundtrip`); a planned list is its ops, with Clip past them.
 use Rattle.std.specs.Prelude.{Ok, Err, Some, None}
 use Prim.Native.Nat.{ℕ, ◌≤◌}
 use mathlib.Core.Path.{◌≡◌, ap, ◌∙◌}
@@ -16,29 +16,29 @@ use Rattle.op.specs.declared.Op.{Op}
 use Rattle.list.specs.Lists.{ops_of, plan_of}
 use Rattle.list.specs.declared.Plan.{Plan}
 use Rattle.list.proofs.Building.{ops-of}
-use Rattle.merge.specs.Merge.{merge_ops}
+use Rattle.list_merge.specs.Merge.{merge_ops}
 use Rattle.encoding.specs.Encodings.{channels_of}
 use Rattle.encoding.specs.Equivalence.{equivalent}
 use Rattle.encoding.specs.declared.ColourEncoding.{ColourEncoding}
 use Rattle.encoding.specs.declared.ColourEncoding.TheVariants as E
 use Rattle.encoding.specs.declared.EnumColourEncoding.{EnumColourEncoding}
 use Rattle.encoding.specs.declared.Settings.{Settings}
-use Rattle.stages.specs.Stages.{stage_ops}
+use Rattle.plan_stages.specs.Stages.{stage_ops}
 use Rattle.planner.specs.Planning as P
 use Rattle.planner.specs.Planning.{refusal, done, out_of_range, retired, unsupported, planned, planned_of}
 use Rattle.planner.specs.declared.Planned.{Planned}
 use Rattle.planner.specs.Planning.{Planning}
 use Rattle.planner.specs.declared.PlanError.TheVariants.{Icc, OutOfRange, Retired, Unsupported}
-use Rattle.block.specs.Block.{paper, read_of}
-use Rattle.block.specs.declared.ReadError.TheVariants as R
-use Rattle.writer.specs.Writing.{left_of}
-use Rattle.writer.specs.Refusals.{RetiredList}
-use Rattle.roundtrip.specs.Typed.{Typed, AreBytes}
-use Rattle.roundtrip.proofs.ReadBack.{read_back}
-use Rattle.roundtrip.proofs.Rewriting.{same_block}
-use Rattle.numbers.specs.Sides.{side_of}
-use Rattle.numbers.specs.Floats.{settings_of}
-use Rattle.numbers.specs.Sides.{Side}
+use Rattle.block_read.specs.Block.{paper, read_of}
+use Rattle.block_read.specs.declared.ReadError.TheVariants as R
+use Rattle.block_write.specs.Writing.{left_of}
+use Rattle.block_write.specs.Refusals.{RetiredList}
+use Rattle.theorem_roundtrip.specs.Typed.{Typed, AreBytes}
+use Rattle.theorem_roundtrip.proofs.ReadBack.{read_back}
+use Rattle.theorem_roundtrip.proofs.Rewriting.{same_block}
+use Rattle.encoding_numbers.specs.Sides.{side_of}
+use Rattle.encoding_numbers.specs.Floats.{settings_of}
+use Rattle.encoding_numbers.specs.Sides.{Side}
 use Rattle.c_plans.specs.Planned.{beside, planned_by, planned_from}
 use Rattle.c_plans.specs.Sent.{sent_after, left_after}
 use Rattle.c_plans.specs.Lists.{plan_sent, plan_left, rewrite_left}

@@ -12,10 +12,10 @@ use lib.ListN.{length}
 use Rattle.notation.specs.Answers.{answer}
 use Rattle.notation.specs.declared.Answer.{Answer}
 use Rattle.list.specs.declared.Plan.{Plan}
-use Rattle.writer.specs.Writing.{paper, length_of, writing_of, left_of}
-use Rattle.writer.specs.Writing.{Writing}
-use Rattle.writer.specs.declared.WriteError.TheVariants.{Malformed, WrongVersion, BadField, Retired, NoRoom}
-use Rattle.writer.proofs.Exactly.{refused-untouched}
+use Rattle.block_write.specs.Writing.{paper, length_of, writing_of, left_of}
+use Rattle.block_write.specs.Writing.{Writing}
+use Rattle.block_write.specs.declared.WriteError.TheVariants.{Malformed, WrongVersion, BadField, Retired, NoRoom}
+use Rattle.block_write.proofs.Exactly.{refused-untouched}
 use Rattle.c_plans.specs.Sent.{sent_after, left_after}
 
 -- the writer's number says all that it answers

@@ -5,12 +5,12 @@ use mathlib.Core.Path.{◌≡◌, ap}
 use mathlib.Core.List.{List}
 use lib.ListN.{length}
 use Rattle.notation.specs.declared.Answer.{Answer}
-use Rattle.merge.specs.Merge.{merge_of}
+use Rattle.list_merge.specs.Merge.{merge_of}
 use Rattle.planner.specs.Planning as P
 use Rattle.planner.specs.declared.Planned.{Planned}
-use Rattle.block.specs.Block.{paper, read_of}
-use Rattle.block.specs.declared.Block.{Block}
-use Rattle.block.proofs.Exactly.{refused-gives-nothing}
+use Rattle.block_read.specs.Block.{paper, read_of}
+use Rattle.block_read.specs.declared.Block.{Block}
+use Rattle.block_read.proofs.Exactly.{refused-gives-nothing}
 use Rattle.c_plans.specs.Sent.{refused}
 use Rattle.c_plans.specs.Lists.{plan_sent, plan_left, read_sent, merge_sent, merge_left, rewrite_sent, rewrite_left, join_of_blocks, join_refusal, join_sent, join_left}
 use Rattle.c_plans.proofs.Sending.{untouched}

@@ -5,14 +5,14 @@ use Rattle.notation.specs.declared.Answer.{Answer}
 use Rattle.list.specs.Answer as L
 use Rattle.list.specs.Check.{check_of}
 use Rattle.list.specs.Check.{Verdict}
-use Rattle.merge.specs.Merge.{merge_of}
-use Rattle.join.specs.Join.{join_of}
-use Rattle.join.specs.declared.Joined.{Joined}
+use Rattle.list_merge.specs.Merge.{merge_of}
+use Rattle.list_join.specs.Join.{join_of}
+use Rattle.list_join.specs.declared.Joined.{Joined}
 use Rattle.planner.specs.Planning as P
 use Rattle.planner.specs.declared.Planned.{Planned}
-use Rattle.block.specs.Block.{paper}
-use Rattle.block.specs.declared.Block.{Block}
-use Rattle.block.specs.Block.{Reading}
+use Rattle.block_read.specs.Block.{paper}
+use Rattle.block_read.specs.declared.Block.{Block}
+use Rattle.block_read.specs.Block.{Reading}
 use Rattle.c_plans.specs.Sent.{sent_after, left_after}
 use Rattle.c_plans.specs.declared.sent.Sent.{Sent}
 

@@ -6,9 +6,9 @@ use Rattle.encoding.specs.declared.Settings.{Settings}
 use Rattle.planner.specs.Planning.{refusal, planned_of}
 use Rattle.planner.specs.declared.Planned.{Planned}
 use Rattle.planner.specs.declared.PlanError.TheVariants.{Icc, OutOfRange}
-use Rattle.numbers.specs.Sides.{side_of}
-use Rattle.numbers.specs.Floats.{settings_of}
-use Rattle.numbers.specs.Sides.{Side}
+use Rattle.encoding_numbers.specs.Sides.{side_of}
+use Rattle.encoding_numbers.specs.Floats.{settings_of}
+use Rattle.encoding_numbers.specs.Sides.{Side}
 
 -- where the numbers of one side mean nothing, and the other side is this: "refused by 2 .., after 1"
 abbrev pub beside : ColourEncoding → Planned

@@ -2,8 +2,8 @@
 use Rattle.std.specs.Prelude.{ℕ, List, [], ◌∷◌, eqb}
 use Rattle.notation.specs.Choice.{when◌then◌else◌}
 use Rattle.list.specs.declared.Plan.{Plan}
-use Rattle.writer.specs.Writing.{paper, length_of, writing_of, left_of}
-use Rattle.writer.specs.Writing.{Writing}
+use Rattle.block_write.specs.Writing.{paper, length_of, writing_of, left_of}
+use Rattle.block_write.specs.Writing.{Writing}
 use Rattle.c_plans.specs.declared.sent.Sent.{Sent}
 
 -- "0s where refused"

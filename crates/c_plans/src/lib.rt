@@ -3,8 +3,8 @@
 
 ghost use Rattle.std.specs.Prelude.{◌≡◌, length};
 ghost use Rattle.buffer.specs.Buffer.{Listed};
-ghost use Rattle.listing.specs.Listing.{text_of};
-ghost use Rattle.block.specs.Block.{read_of};
+ghost use Rattle.block_text.specs.Listing.{text_of};
+ghost use Rattle.block_read.specs.Block.{read_of};
 ghost use Rattle.c_plans.specs.Planned.{planned_from};
 ghost use Rattle.c_plans.specs.Sent.{widths_told};
 ghost use Rattle.c_plans.specs.Lists.{first_refusal, read_sent, checked_of, check_told, plan_sent, plan_left, merge_sent, merge_left, rewrite_sent, rewrite_left, join_sent, join_told, join_left};
@@ -12,7 +12,7 @@ ghost use Rattle.c_plans.specs.Lists.{first_refusal, read_sent, checked_of, chec
 mod planned; // planned.rt: planning between what numbers mean
 mod sent; // sent.rt: a list written into the caller's bytes, and what is told of it
 
-use block::{Block, ReadError};
+use block_read::{Block, ReadError};
 use list::CheckError;
 use notation::Answer;
 use planned::planned;
@@ -34,9 +34,9 @@ pub fn rindsaddle_plan(
     ensures told_after { told.new ≡ widths_told (plan_sent (planned_from source.now target.now settings.now detect_peak from_pq) version (length out.old)) }
     ensures out_after { out.new ≡ plan_left (planned_from source.now target.now settings.now detect_peak from_pq) version out.old }
 {
-    let from = numbers::side_of(source);
-    let to = numbers::side_of(target);
-    let with = numbers::settings_of(settings, detect_peak, from_pq);
+    let from = encoding_numbers::side_of(source);
+    let to = encoding_numbers::side_of(target);
+    let with = encoding_numbers::settings_of(settings, detect_peak, from_pq);
     let plan = planned(from, to, with);
     let number = planner::paper(plan.answer).number;
     send_and_tell(number, plan.plan, version, out, told)
@@ -46,7 +46,7 @@ fn read_sent(block: Block) -> Sent
     ensures { result ≡ read_sent block }
 {
     Sent {
-        number: block::paper(block.answer).number,
+        number: block_read::paper(block.answer).number,
         length: block.used,
         start: block.plan.start,
         end: block.plan.end,
@@ -58,7 +58,7 @@ pub fn rindsaddle_read(bytes: &[u8], told: &mut [u64; 4]) -> u8
     ensures value { result ≡ (read_sent (read_of bytes.now)).number }
     ensures told_after { told.new ≡ widths_told (read_sent (read_of bytes.now)) }
 {
-    let sent = read_sent(block::read(bytes));
+    let sent = read_sent(block_read::read(bytes));
     tell_widths(told, sent);
     sent.number
 }
@@ -69,7 +69,7 @@ fn checked(block: Block) -> Answer
 {
     match block.answer {
         Ok(()) => list::paper(list::check(block.plan)),
-        Err(e) => block::paper(Err(e)),
+        Err(e) => block_read::paper(Err(e)),
     }
 }
 
@@ -78,7 +78,7 @@ pub fn rindsaddle_check(bytes: &[u8], told: &mut [u64; 4]) -> u8
     ensures value { result ≡ (checked_of (read_of bytes.now)).number }
     ensures told_after { told.new ≡ check_told (read_of bytes.now) }
 {
-    let block = block::read(bytes);
+    let block = block_read::read(bytes);
     let answer = checked(block);
     tell(
         told,
@@ -96,9 +96,9 @@ pub fn rindsaddle_merge(bytes: &[u8], out: &mut [u8], told: &mut [u64; 4]) -> u8
     ensures told_after { told.new ≡ widths_told (merge_sent (read_of bytes.now) (length out.old)) }
     ensures out_after { out.new ≡ merge_left (read_of bytes.now) out.old }
 {
-    let block = block::read(bytes);
-    let number = block::paper(block.answer).number;
-    let merged = merge::merge(block.plan);
+    let block = block_read::read(bytes);
+    let number = block_read::paper(block.answer).number;
+    let merged = list_merge::merge(block.plan);
     send_and_tell(number, merged.plan, block.version, out, told)
 }
 
@@ -108,8 +108,8 @@ pub fn rindsaddle_rewrite(bytes: &[u8], version: u16, out: &mut [u8], told: &mut
     ensures told_after { told.new ≡ widths_told (rewrite_sent (read_of bytes.now) version (length out.old)) }
     ensures out_after { out.new ≡ rewrite_left (read_of bytes.now) version out.old }
 {
-    let block = block::read(bytes);
-    let number = block::paper(block.answer).number;
+    let block = block_read::read(bytes);
+    let number = block_read::paper(block.answer).number;
     send_and_tell(number, block.plan, version, out, told)
 }
 
@@ -123,8 +123,8 @@ fn first_refusal(
 {
     match (first, second) {
         (Ok(()), Ok(())) => list::paper(verdict),
-        (Ok(()), Err(e)) => block::paper(Err(e)),
-        (Err(e), _) => block::paper(Err(e)),
+        (Ok(()), Err(e)) => block_read::paper(Err(e)),
+        (Err(e), _) => block_read::paper(Err(e)),
     }
 }
 
@@ -140,9 +140,9 @@ pub fn rindsaddle_join(
     ensures told_after { told.new ≡ join_told (read_of first.now) (read_of second.now) version (length out.old) }
     ensures out_after { out.new ≡ join_left (read_of first.now) (read_of second.now) version out.old }
 {
-    let one = block::read(first);
-    let two = block::read(second);
-    let joined = join::join(one.plan, two.plan);
+    let one = block_read::read(first);
+    let two = block_read::read(second);
+    let joined = list_join::join(one.plan, two.plan);
     let answer = first_refusal(one.answer, two.answer, joined.answer);
     let sent = send(answer.number, joined.plan, version, out);
     tell(
@@ -159,5 +159,5 @@ pub fn rindsaddle_join(
 pub fn rindsaddle_text(bytes: &[u8], out: &mut [u8; 1024]) -> usize
     ensures { Listed (text_of bytes.now) out.old out.new result }
 {
-    listing::list(bytes, out)
+    block_text::list(bytes, out)
 }

@@ -2,8 +2,8 @@
 ghost use Rattle.std.specs.Prelude.{◌≡◌, [], ◌∷◌, length};
 ghost use Rattle.c_plans.specs.Sent.{refused, sent_by, sent_after, left_after, widths_told};
 
+use block_write::WriteError;
 use list::Plan;
-use writer::WriteError;
 
 // The number, the length used, and the widths; zeros behind the number of a refusal. Kept as numbers: C is told them so.
 #[derive(Clone, Copy, Debug, PartialEq, Eq)]
@@ -35,7 +35,7 @@ fn sent_by(plan: Plan, writing: Result<usize, WriteError>) -> Sent
             start: plan.start,
             end: plan.end,
         },
-        Err(e) => refused(writer::paper(Err(e)).number),
+        Err(e) => refused(block_write::paper(Err(e)).number),
     }
 }
 
@@ -47,7 +47,7 @@ pub(crate) fn send(number: u8, plan: Plan, version: u16, out: &mut [u8]) -> Sent
     if number != 0 {
         return refused(number);
     }
-    sent_by(plan, writer::write(plan, version, out))
+    sent_by(plan, block_write::write(plan, version, out))
 }
 
 pub(crate) fn tell(told: &mut [u64; 4], a: u64, b: u64, c: u64, d: u64)

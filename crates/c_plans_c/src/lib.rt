@@ -3,8 +3,8 @@
 
 ghost use Rattle.std.specs.Prelude.{◌≡◌, length};
 ghost use Rattle.buffer.specs.Buffer.{Listed};
-ghost use Rattle.listing.specs.Listing.{text_of};
-ghost use Rattle.block.specs.Block.{read_of};
+ghost use Rattle.block_text.specs.Listing.{text_of};
+ghost use Rattle.block_read.specs.Block.{read_of};
 ghost use Rattle.c_plans.specs.Planned.{planned_from};
 ghost use Rattle.c_plans.specs.Sent.{widths_told};
 ghost use Rattle.c_plans.specs.Lists.{read_sent, checked_of, check_told, plan_sent, plan_left, merge_sent, merge_left, rewrite_sent, rewrite_left, join_sent, join_told, join_left};

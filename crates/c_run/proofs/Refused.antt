@@ -9,12 +9,12 @@ use Rattle.notation.specs.declared.Answer.{Answer}
 use Rattle.channels.specs.Channels.{Channels}
 use Rattle.list.specs.Lists.{no_list}
 use Rattle.list.specs.declared.Plan.{Plan}
-use Rattle.block.specs.Block as Block
-use Rattle.block.specs.Block.{read_of}
-use Rattle.block.specs.declared.Block as Read
-use Rattle.block.specs.Block.{Reading}
-use Rattle.block.specs.declared.ReadError.TheVariants as R
-use Rattle.block.proofs.Exactly.{refused-gives-nothing}
+use Rattle.block_read.specs.Block as Block
+use Rattle.block_read.specs.Block.{read_of}
+use Rattle.block_read.specs.declared.Block as Read
+use Rattle.block_read.specs.Block.{Reading}
+use Rattle.block_read.specs.declared.ReadError.TheVariants as R
+use Rattle.block_read.proofs.Exactly.{refused-gives-nothing}
 use Rattle.run.specs.Refusals as Run
 use Rattle.run.specs.Refusals.{outcome_of}
 use Rattle.run.specs.Report.{bad_after}

@@ -4,9 +4,9 @@ use Rattle.notation.specs.Choice.{when◌then◌else◌}
 use Rattle.notation.specs.declared.Answer.{Answer}
 use Rattle.c_told.specs.Told.{told_by}
 use Rattle.channels.specs.Channels.{Channels}
-use Rattle.block.specs.Block as Block
-use Rattle.block.specs.Block.{read_of}
-use Rattle.block.specs.Block.{Reading}
+use Rattle.block_read.specs.Block as Block
+use Rattle.block_read.specs.Block.{read_of}
+use Rattle.block_read.specs.Block.{Reading}
 use Rattle.run.specs.Refusals as Run
 use Rattle.run.specs.Refusals.{outcome_of}
 use Rattle.run.specs.Report.{reported_of}

@@ -6,7 +6,7 @@ ghost use Rattle.std.specs.Prelude.{◌≡◌};
 ghost use Rattle.channels.specs.Channels.{channels};
 ghost use Rattle.c_run.specs.BlockRun.{answer_by, answer_of, left_of, told_of};
 
-use block::ReadError;
+use block_read::ReadError;
 use notation::Answer;
 use run::RunError;
 
@@ -16,7 +16,7 @@ fn answer_by(reading: Result<(), ReadError>, outcome: Result<u8, RunError>) -> A
 {
     match reading {
         Ok(()) => run::paper(outcome),
-        Err(e) => block::paper(Err(e)),
+        Err(e) => block_read::paper(Err(e)),
     }
 }
 
@@ -33,7 +33,7 @@ pub extern "C" fn rindsaddle_run(
     ensures c_after { channels a.new b.new c.new ≡ left_of bytes.now (channels a.old b.old c.old) }
     ensures told_after { told.new ≡ told_of bytes.now (channels a.old b.old c.old) }
 {
-    let block = block::read(bytes);
+    let block = block_read::read(bytes);
     let ran = run::run(block.plan, a, b, c);
     let answer = answer_by(block.answer, ran.outcome);
     c_told::tell(told, answer, ran.bad);

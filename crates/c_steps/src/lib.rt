@@ -6,12 +6,12 @@ ghost use Rattle.std.specs.Prelude.{◌≡◌};
 ghost use Rattle.ciexyz.specs.Matrix.{applied};
 ghost use Rattle.channels.specs.Channels.{channels, each, equally_long, where_equal};
 ghost use Rattle.channels.specs.Stepping.{paper, step_of};
-ghost use Rattle.counts.specs.Bad.{count_of};
-ghost use Rattle.firmware.specs.Conversion.{conversion_of, left_by, paper as paper_of};
-ghost use Rattle.firmware.specs.Firmware.{weights_of};
+ghost use Rattle.bad_samples.specs.Bad.{count_of};
+ghost use Rattle.ycbcr_firmware.specs.Conversion.{conversion_of, left_by, paper as paper_of};
+ghost use Rattle.ycbcr_firmware.specs.Firmware.{weights_of};
 ghost use Rattle.steps.specs.Samples.{clipped_within, luma_of_xyz, xyz_of_luma};
-ghost use Rattle.xyb.specs.Xyb.{mixed_lms};
-ghost use Rattle.ycbcr.specs.Ycbcr.{rgb_of};
+ghost use Rattle.step_xyb.specs.Xyb.{mixed_lms};
+ghost use Rattle.ycbcr_float.specs.Ycbcr.{rgb_of};
 ghost use Rattle.c_steps.specs.Handed.{matrix_of, vector_of};
 
 use ciexyz::{Mat3, Vec3, Xy};
@@ -56,7 +56,7 @@ pub extern "C" fn rindsaddle_xyb_to_mixed_lms(
     ensures b_after { channels x.new y.new b.new ≡ where_equal (each (mixed_lms (vector_of opsin_bias.now) intensity_target)) (channels x.old y.old b.old) }
 {
     let bias = vector_of(opsin_bias);
-    channels::paper(xyb::xyb_to_mixed_lms_samples(bias, intensity_target, x, y, b)).number
+    channels::paper(step_xyb::xyb_to_mixed_lms_samples(bias, intensity_target, x, y, b)).number
 }
 
 #[unsafe(no_mangle)]
@@ -125,7 +125,7 @@ pub extern "C" fn rindsaddle_ycbcr(
     ensures value { result ≡ (paper_of (conversion_of firmware (equally_long (channels cb.old y.old cr.old)))).number }
     ensures cr_after { channels cb.new y.new cr.new ≡ left_by (conversion_of firmware (equally_long (channels cb.old y.old cr.old))) (each (rgb_of (weights_of firmware)) (channels cb.old y.old cr.old)) (channels cb.old y.old cr.old) }
 {
-    firmware::paper(ycbcr::ycbcr_to_rgb(firmware, cb, y, cr)).number
+    ycbcr_firmware::paper(ycbcr_float::ycbcr_to_rgb(firmware, cb, y, cr)).number
 }
 
 // How many samples in the channels within the width are infinite or NaN.
@@ -133,5 +133,5 @@ pub extern "C" fn rindsaddle_ycbcr(
 pub extern "C" fn rindsaddle_count(width: u8, a: &[f32], b: &[f32], c: &[f32]) -> u64
     ensures { result ≡ count_of width (channels a.now b.now c.now) }
 {
-    counts::count(width, a, b, c)
+    bad_samples::count(width, a, b, c)
 }

@@ -8,16 +8,16 @@ use borrow.Author.Tests.{ne_eqb}
 use lib.ListN.{get_or}
 use Rattle.notation.specs.Answers.{answer}
 use Rattle.channels.specs.Channels.{Channels}
-use Rattle.judge.specs.Judging.{Judgement}
-use Rattle.judge.specs.declared.JudgeError.TheVariants.{Malformed, Misfit, NotCarried}
-use Rattle.strips.specs.Machine.{paper, strip_of, close_of}
-use Rattle.strips.specs.Machine.{Stripping}
-use Rattle.strips.specs.declared.StripError.TheVariants.{NotOpen, Unequal}
-use Rattle.strips.proofs.Refused.{refused-strip, refused-reports, refused-close_reports}
-use Rattle.block.specs.Block as Block
-use Rattle.block.specs.Block.{read_of}
-use Rattle.block.specs.Block.{Reading}
-use Rattle.block.specs.declared.ReadError.TheVariants as R
+use Rattle.run_check.specs.Judging.{Judgement}
+use Rattle.run_check.specs.declared.JudgeError.TheVariants.{Malformed, Misfit, NotCarried}
+use Rattle.run_strips.specs.Machine.{paper, strip_of, close_of}
+use Rattle.run_strips.specs.Machine.{Stripping}
+use Rattle.run_strips.specs.declared.StripError.TheVariants.{NotOpen, Unequal}
+use Rattle.run_strips.proofs.Refused.{refused-strip, refused-reports, refused-close_reports}
+use Rattle.block_read.specs.Block as Block
+use Rattle.block_read.specs.Block.{read_of}
+use Rattle.block_read.specs.Block.{Reading}
+use Rattle.block_read.specs.declared.ReadError.TheVariants as R
 use Rattle.c_told.specs.Told.{told_by}
 use Rattle.c_strips.specs.BlockStrips.{state_of, no_run, opened, open_by, open_answer, open_words, open_told, strip_answer, strip_words, strip_told, strip_left, close_answer, close_told}
 

@@ -14,21 +14,21 @@ use Rattle.list.specs.Lists.{plan_of, appended}
 use Rattle.list.specs.declared.Plan.{Plan}
 use Rattle.list.proofs.Building.{as-it-is, ops-of}
 use Rattle.list.proofs.Formed.{lawful-exactly}
-use Rattle.judge.specs.Judging as Judging
-use Rattle.judge.specs.Judging.{judge_of}
-use Rattle.judge.specs.Judging.{Judgement}
-use Rattle.judge.specs.declared.JudgeError.TheVariants.{Malformed, Misfit, NotCarried}
-use Rattle.judge.proofs.Exactly.{zero-exactly}
-use Rattle.strips.specs.Machine.{paper, opened_by, open_of, answer_of, after_by, left_of, strip_of, close_of}
-use Rattle.strips.specs.declared.State.{State}
-use Rattle.strips.specs.Machine.{Stripping}
-use Rattle.strips.specs.declared.StripError.TheVariants.{NotOpen, Unequal}
-use Rattle.block.specs.Fields.{byte_at}
-use Rattle.block.specs.Block.{read_of}
-use Rattle.block.specs.declared.Block.{Block}
-use Rattle.block.specs.Block.{Reading}
-use Rattle.block.specs.declared.ReadError.TheVariants as R
-use Rattle.block.proofs.Judging.{Judged, short, wrong, no_end, malformed, early, unreadable, false_end, done, judged}
+use Rattle.run_check.specs.Judging as Judging
+use Rattle.run_check.specs.Judging.{judge_of}
+use Rattle.run_check.specs.Judging.{Judgement}
+use Rattle.run_check.specs.declared.JudgeError.TheVariants.{Malformed, Misfit, NotCarried}
+use Rattle.run_check.proofs.Exactly.{zero-exactly}
+use Rattle.run_strips.specs.Machine.{paper, opened_by, open_of, answer_of, after_by, left_of, strip_of, close_of}
+use Rattle.run_strips.specs.declared.State.{State}
+use Rattle.run_strips.specs.Machine.{Stripping}
+use Rattle.run_strips.specs.declared.StripError.TheVariants.{NotOpen, Unequal}
+use Rattle.block_read.specs.Fields.{byte_at}
+use Rattle.block_read.specs.Block.{read_of}
+use Rattle.block_read.specs.declared.Block.{Block}
+use Rattle.block_read.specs.Block.{Reading}
+use Rattle.block_read.specs.declared.ReadError.TheVariants as R
+use Rattle.block_read.proofs.Judging.{Judged, short, wrong, no_end, malformed, early, unreadable, false_end, done, judged}
 use Rattle.c_strips.specs.BlockStrips.{state_by, state_of, no_run, words_of, open_by, open_words, strip_words}
 
 -- ---- an opening

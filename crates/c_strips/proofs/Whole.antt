@@ -10,21 +10,21 @@ use Rattle.notation.specs.declared.Answer.{Answer}
 use Rattle.channels.specs.Channels.{Channels}
 use Rattle.channels.specs.Joined.{join_all}
 use Rattle.list.specs.declared.Plan.{Plan}
-use Rattle.judge.specs.Judging as Judging
-use Rattle.judge.specs.Judging.{judge_of}
-use Rattle.judge.specs.Judging.{Judgement}
+use Rattle.run_check.specs.Judging as Judging
+use Rattle.run_check.specs.Judging.{judge_of}
+use Rattle.run_check.specs.Judging.{Judgement}
 use Rattle.run.specs.Refusals as Run
 use Rattle.run.specs.Refusals.{outcome_of}
 use Rattle.run.specs.Report.{reported_of}
 use Rattle.run.specs.Run.{ran_of}
-use Rattle.strips.specs.Machine.{closed, close_of, left_of}
-use Rattle.strips.specs.Calls.{AllEquallyLong, accepted, after_all, closes, gives, opens, told}
-use Rattle.strips.specs.Calls as Machine
-use Rattle.strips.specs.declared.State.{State}
-use Rattle.strips.proofs.Whole as Strips
-use Rattle.block.specs.Block.{read_of}
-use Rattle.block.specs.Block.{Reading}
-use Rattle.block.specs.declared.ReadError.TheVariants as R
+use Rattle.run_strips.specs.Machine.{closed, close_of, left_of}
+use Rattle.run_strips.specs.Calls.{AllEquallyLong, accepted, after_all, closes, gives, opens, told}
+use Rattle.run_strips.specs.Calls as Machine
+use Rattle.run_strips.specs.declared.State.{State}
+use Rattle.run_strips.proofs.Whole as Strips
+use Rattle.block_read.specs.Block.{read_of}
+use Rattle.block_read.specs.Block.{Reading}
+use Rattle.block_read.specs.declared.ReadError.TheVariants as R
 use Rattle.c_strips.specs.BlockStrips.{state_of, open_by, open_answer, open_words, strip_words, close_answer}
 use Rattle.c_strips.specs.Sequences.{words_all, left_all}
 use Rattle.c_strips.proofs.Standing.{open-stands, strip-stands}

@@ -6,16 +6,16 @@ use Rattle.notation.specs.declared.Answer.{Answer}
 use Rattle.c_told.specs.Told.{told_by}
 use Rattle.channels.specs.Channels.{Channels}
 use Rattle.list.specs.declared.Plan.{Plan}
-use Rattle.judge.specs.Judging as Judging
-use Rattle.judge.specs.Judging.{Judgement}
-use Rattle.strips.specs.Machine.{closed, open_of, strip_of, close_of}
-use Rattle.strips.specs.Machine as Strips
-use Rattle.strips.specs.declared.Opened.{Opened}
-use Rattle.strips.specs.declared.State.{State}
-use Rattle.strips.specs.declared.Stripped.{Stripped}
-use Rattle.block.specs.Block as Block
-use Rattle.block.specs.Block.{read_of}
-use Rattle.block.specs.Block.{Reading}
+use Rattle.run_check.specs.Judging as Judging
+use Rattle.run_check.specs.Judging.{Judgement}
+use Rattle.run_strips.specs.Machine.{closed, open_of, strip_of, close_of}
+use Rattle.run_strips.specs.Machine as Strips
+use Rattle.run_strips.specs.declared.Opened.{Opened}
+use Rattle.run_strips.specs.declared.State.{State}
+use Rattle.run_strips.specs.declared.Stripped.{Stripped}
+use Rattle.block_read.specs.Block as Block
+use Rattle.block_read.specs.Block.{read_of}
+use Rattle.block_read.specs.Block.{Reading}
 
 -- the state that a list and two words stand for; a first word that is not 1 stands for no open run
 abbrev pub state_by : Plan → ℕ → ℕ → State

@@ -4,23 +4,23 @@
 
 ghost use Rattle.std.specs.Prelude.{◌≡◌};
 ghost use Rattle.channels.specs.Channels.{channels};
-ghost use Rattle.block.specs.Block.{read_of};
+ghost use Rattle.block_read.specs.Block.{read_of};
 ghost use Rattle.c_strips.specs.BlockStrips.{state_by, no_run, words_of, open_by, open_answer, open_words, open_told, strip_answer, strip_words, strip_told, strip_left, close_answer, close_told};
 
-use block::ReadError;
-use judge::JudgeError;
+use block_read::ReadError;
 use notation::Answer;
-use strips::State;
+use run_check::JudgeError;
+use run_strips::State;
 
 // The run that the block and the words stand for.
 fn state_of(bytes: &[u8], first: u64, sum: u64) -> State
     ensures { result ≡ state_by (read_of bytes.now).plan first sum }
 {
     if first != 1 {
-        return strips::closed();
+        return run_strips::closed();
     }
     State {
-        plan: block::read(bytes).plan,
+        plan: block_read::read(bytes).plan,
         bad: sum,
     }
 }
@@ -40,8 +40,8 @@ fn open_by(reading: Result<(), ReadError>, judgement: Result<u8, JudgeError>) ->
     ensures { result ≡ open_by reading judgement }
 {
     match reading {
-        Ok(()) => judge::paper(judgement),
-        Err(e) => block::paper(Err(e)),
+        Ok(()) => run_check::paper(judgement),
+        Err(e) => block_read::paper(Err(e)),
     }
 }
 
@@ -52,8 +52,8 @@ pub extern "C" fn rindsaddle_open(bytes: &[u8], state: &mut [u64; 2], told: &mut
     ensures state_after { state.new ≡ open_words bytes.now }
     ensures told_after { told.new ≡ open_told bytes.now }
 {
-    let block = block::read(bytes);
-    let opened = strips::open(strips::closed(), block.plan);
+    let block = block_read::read(bytes);
+    let opened = run_strips::open(run_strips::closed(), block.plan);
     let answer = open_by(block.answer, opened.answer);
     *state = words_of(answer.number, opened.state.bad, [0, 0]);
     c_told::tell(told, answer, 0);
@@ -77,8 +77,8 @@ pub extern "C" fn rindsaddle_strip(
 {
     let words = *state;
     let before = state_of(bytes, words[0], words[1]);
-    let stripped = strips::strip(before, a, b, c);
-    let answer = strips::paper(stripped.answer);
+    let stripped = run_strips::strip(before, a, b, c);
+    let answer = run_strips::paper(stripped.answer);
     *state = words_of(answer.number, stripped.state.bad, words);
     c_told::tell(told, answer, stripped.bad);
     answer.number
@@ -92,8 +92,8 @@ pub extern "C" fn rindsaddle_close(bytes: &[u8], state: &mut [u64; 2], told: &mu
     ensures told_after { told.new ≡ close_told bytes.now state.old }
 {
     let before = state_of(bytes, state[0], state[1]);
-    let closed = strips::close(before);
-    let answer = strips::paper(closed.answer);
+    let closed = run_strips::close(before);
+    let answer = run_strips::paper(closed.answer);
     *state = [0, 0];
     c_told::tell(told, answer, closed.bad);
     answer.number

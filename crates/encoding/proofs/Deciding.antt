@@ -14,9 +14,9 @@ use Rattle.ciexyz.specs.declared.WhitePoint.{WhitePoint}
 use Rattle.ciexyz.specs.declared.WhitePoint.TheVariants as W
 use Rattle.ciexyz.specs.declared.Primaries.{Primaries}
 use Rattle.ciexyz.specs.declared.Primaries.TheVariants as P
-use Rattle.same.specs.Same.{same_whole}
+use Rattle.list_same.specs.Same.{same_whole}
 use Rattle.notation.proofs.Deciding.{Decides, exactly, numbers, pairs, through}
-use Rattle.same.proofs.Deciding.{wholes}
+use Rattle.list_same.proofs.Deciding.{wholes}
 use Rattle.encoding.specs.Custom.{corners, custom_white, custom_corners}
 use Rattle.encoding.specs.Named.{space_number, same_space, intent_number, same_intent, same_point, white_number, same_white, same_corners, primaries_number, same_primaries}
 use Rattle.encoding.specs.declared.ColourSpace.{ColourSpace}

@@ -8,7 +8,7 @@ use Rattle.std.specs.Ordering.{int_eq}
 use Rattle.ciexyz.specs.contracts.PrimariesPartialEq.TheImpl as derived
 use Rattle.ciexyz.specs.declared.Primaries.{Primaries}
 use Rattle.ciexyz.specs.declared.Primaries.TheVariants as P
-use Rattle.same.specs.Same.{same_whole}
+use Rattle.list_same.specs.Same.{same_whole}
 use Rattle.encoding.specs.Named.{same_point, same_primaries}
 
 whole-same : (x y : ℤ) → int_eq x y ≡ same_whole x y

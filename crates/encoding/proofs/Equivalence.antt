@@ -3,7 +3,7 @@
 use mathlib.Core.Path.{◌≡◌}
 use mathlib.Core.Bool.{true}
 use mathlib.Core.Logic.{◌↔◌, ◌⊎◌, inl, inr, ⊎_elim}
-use Rattle.same.proofs.Exactly.{same_curve-exactly}
+use Rattle.list_same.proofs.Exactly.{same_curve-exactly}
 use Rattle.encoding.specs.Equivalence.{equivalent, Equivalent, both_xyb, alike}
 use Rattle.encoding.specs.declared.ColourSpace.TheVariants as S
 use Rattle.encoding.specs.declared.EnumColourEncoding.{EnumColourEncoding}

@@ -13,7 +13,7 @@ use Rattle.ciexyz.specs.declared.WhitePoint.{WhitePoint}
 use Rattle.ciexyz.specs.declared.WhitePoint.TheVariants as W
 use Rattle.ciexyz.specs.declared.Primaries.{Primaries}
 use Rattle.ciexyz.specs.declared.Primaries.TheVariants as P
-use Rattle.parts.specs.Curves.{gamma_of}
+use Rattle.op_fields.specs.Curves.{gamma_of}
 use Rattle.op.specs.declared.Curve.{Curve}
 use Rattle.op.specs.declared.Curve.TheVariants as C
 use Rattle.encoding.specs.Custom.{corners, custom_white, custom_corners}

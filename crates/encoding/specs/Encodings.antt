@@ -1,7 +1,7 @@
 -- The channels of an encoding, and whether it is HDR.
 use Rattle.std.specs.Prelude.{ℕ, Bool, ◌||◌}
 use Rattle.notation.specs.Choice.{when◌then◌else◌}
-use Rattle.same.specs.Same.{same_curve}
+use Rattle.list_same.specs.Same.{same_curve}
 use Rattle.op.specs.declared.Curve.TheVariants as C
 use Rattle.encoding.specs.Named.{same_space}
 use Rattle.encoding.specs.declared.ColourSpace.TheVariants as S

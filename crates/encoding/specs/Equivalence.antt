@@ -1,6 +1,6 @@
 -- "Equivalence: `is_equivalent`, enum case." (01, Planning)
 use Rattle.std.specs.Prelude.{◌≡◌, Bool, ◌&&◌, ◌||◌, ◌⊎◌}
-use Rattle.same.specs.Same.{same_curve}
+use Rattle.list_same.specs.Same.{same_curve}
 use Rattle.encoding.specs.Named.{same_space, same_intent, same_white, same_primaries}
 use Rattle.encoding.specs.declared.ColourSpace.TheVariants as S
 use Rattle.encoding.specs.declared.EnumColourEncoding.{EnumColourEncoding}

@@ -2,7 +2,7 @@
 use Rattle.std.specs.Prelude.{ℕ, Bool, List, eqb, ltb, length, take, drop}
 use Rattle.notation.specs.Choice.{when◌then◌else◌}
 use Rattle.notation.specs.Text.{ascii}
-use Rattle.same.specs.Same.{same_all}
+use Rattle.list_same.specs.Same.{same_all}
 
 abbrev pub gray : List ℕ
 gray = ascii "GRAY"

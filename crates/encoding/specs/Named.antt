@@ -5,7 +5,7 @@ use Rattle.ciexyz.specs.declared.WhitePoint.{WhitePoint}
 use Rattle.ciexyz.specs.declared.WhitePoint.TheVariants as W
 use Rattle.ciexyz.specs.declared.Primaries.{Primaries}
 use Rattle.ciexyz.specs.declared.Primaries.TheVariants as P
-use Rattle.same.specs.Same.{same_whole}
+use Rattle.list_same.specs.Same.{same_whole}
 use Rattle.encoding.specs.Custom.{custom_white, custom_corners}
 use Rattle.encoding.specs.declared.ColourSpace.{ColourSpace}
 use Rattle.encoding.specs.declared.ColourSpace.TheVariants as S

@@ -4,7 +4,7 @@ use Rattle.std.specs.Int.Signed.{le_z}
 use Rattle.ciexyz.specs.declared.Millionths.{Millionths}
 use Rattle.ciexyz.specs.declared.WhitePoint.TheVariants as W
 use Rattle.ciexyz.specs.declared.Primaries.TheVariants as P
-use Rattle.parts.specs.Curves.{gamma_of}
+use Rattle.op_fields.specs.Curves.{gamma_of}
 use Rattle.op.specs.declared.Curve.TheVariants as C
 use Rattle.encoding.specs.Custom.{custom_white, custom_corners}
 use Rattle.encoding.specs.declared.EnumColourEncoding.{EnumColourEncoding}

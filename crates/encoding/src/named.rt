@@ -37,7 +37,7 @@ fn same_rest(me: EnumColourEncoding, other: EnumColourEncoding) -> bool
 {
     same_intent(me.rendering_intent, other.rendering_intent)
         && same_white_point(me.white_point, other.white_point)
-        && same::same_curve(me.tf, other.tf)
+        && list_same::same_curve(me.tf, other.tf)
         && (same_colour_space(me.colour_space, ColourSpace::Grey)
             || same_primaries(me.primaries, other.primaries))
 }

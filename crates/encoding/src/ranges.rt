@@ -1,7 +1,7 @@
 // Whether every custom coordinate and `g` of an encoding is in its range, used or not.
 ghost use Rattle.std.specs.Prelude.{◌≡◌};
 ghost use Rattle.encoding.specs.Ranges.{coordinate_in_range, point_in_range, corners_in_range, gamma_in_range, in_range};
-ghost use Rattle.parts.specs.Curves.{gamma_of};
+ghost use Rattle.op_fields.specs.Curves.{gamma_of};
 
 use crate::EnumColourEncoding;
 use crate::custom::{Corners, custom_corners, custom_white};

@@ -11,7 +11,7 @@ use Rattle.notation.proofs.Elements.{next}
 use Rattle.buffer.specs.Buffer.{Put, Room}
 use Rattle.buffer.proofs.Putting.{Goes, begun, ended, further}
 use Rattle.buffer.proofs.Putting as P
-use Rattle.writer.specs.Bytes.{joined}
+use Rattle.block_write.specs.Bytes.{joined}
 use Rattle.channels.specs.Channels.{zip3}
 use Rattle.channels.proofs.Rows.{length-rows, row_at}
 use Rattle.pfm.specs.Samples.{word_bytes}

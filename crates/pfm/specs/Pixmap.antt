@@ -2,7 +2,7 @@
 use Rattle.std.specs.Prelude.{ℕ, List, [], ◌∷◌, length}
 use Rattle.notation.specs.Choice.{when◌then◌else◌}
 use Rattle.channels.specs.Channels.{zip3}
-use Rattle.writer.specs.Bytes.{joined}
+use Rattle.block_write.specs.Bytes.{joined}
 use Rattle.pfm.specs.Samples.{fits_by}
 
 pub record Pixel : Type 0 where

@@ -8,8 +8,8 @@ use Rattle.notation.specs.F32 as F32
 use Rattle.notation.specs.F32.{bits}
 use Rattle.ciexyz.specs.declared.Vec3.{Vec3}
 use Rattle.channels.specs.Channels.{Channels, channels, same_lengths, triples}
-use Rattle.block.specs.Fields.{byte_at}
-use Rattle.writer.specs.Bytes.{joined, u32_bytes}
+use Rattle.block_read.specs.Fields.{byte_at}
+use Rattle.block_write.specs.Bytes.{joined, u32_bytes}
 use Rattle.pfm.specs.declared.samples.Unfit.{Unfit}
 
 -- four bytes from a place on, the lowest first, or the highest

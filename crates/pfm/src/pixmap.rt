@@ -1,5 +1,5 @@
 // The pixels of a portable pixmap (PPM): the bytes of red, green and blue one behind the other.
-// Slices of their own, as `planes` says.
+// Slices of their own, as `ycbcr_planes` says.
 ghost use Rattle.std.specs.Prelude.{◌≡◌, ◌*◌, length};
 ghost use Rattle.pfm.specs.Samples.{told, fits_by};
 ghost use Rattle.pfm.specs.Pixmap.{pixels_of, pixels_left};

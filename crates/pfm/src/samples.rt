@@ -3,7 +3,7 @@
 ghost use Rattle.std.specs.Prelude.{◌≡◌, ◌+◌, ◌*◌, ◌≤◌, ◌<◌, eqb, length, replicate};
 ghost use Rattle.notation.specs.F32.{zero};
 ghost use Rattle.channels.specs.Channels.{EquallyLong, channels, triples};
-ghost use Rattle.writer.specs.Bytes.{joined};
+ghost use Rattle.block_write.specs.Bytes.{joined};
 ghost use Rattle.pfm.specs.Samples.{word_at, sample_at, channel_in, told, fits_by, fits, three_from, one_from, word_bytes, sample_bytes, pixel_bytes, three_to, fits_one, one_to, size_of, channels_from};
 
 use ciexyz::Vec3;

@@ -8,6 +8,6 @@ fn main(rt: HostRuntime) -> io::Result<()> {
     let mut input = [0u8; 4096];
     let n = saying::read_full(&rt, &mut input)?;
     let mut text = [0u8; 1024];
-    let size = listing::list(&input[..n], &mut text);
+    let size = block_text::list(&input[..n], &mut text);
     rt.write_all(&text[..size])
 }

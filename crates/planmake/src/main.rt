@@ -11,8 +11,8 @@ fn word_length(text: &[u8]) -> usize {
 // Names the word that begins at a place, or says that one is missing there.
 fn name_fault(rt: &HostRuntime, text: &[u8], place: usize) -> io::Result<()> {
     saying::begin(rt, "planmake")?;
-    let line = wording::line_of(text, place);
-    let word = wording::word_of(text, place);
+    let line = plan_words::line_of(text, place);
+    let word = plan_words::word_of(text, place);
     eprint!(rt; "line {line}, word {word}")?;
     name_word(rt, text, place)
 }
@@ -32,19 +32,19 @@ fn name_word(rt: &HostRuntime, text: &[u8], place: usize) -> io::Result<()> {
 
 // No block is longer than 1,192 bytes.
 fn make(rt: &HostRuntime, text: &[u8]) -> io::Result<()> {
-    let filling = wording::filled(text);
+    let filling = plan_words::filled(text);
     if let Some(place) = filling.fault {
         return name_fault(rt, text, place);
     }
     let mut block = [0u8; 1_192];
     let mut told = [0u64; 4];
     let number = c_plans::rindsaddle_plan(
-        &wording::source(filling),
-        &wording::target(filling),
-        &wording::floats(filling),
-        wording::detect_peak(filling),
-        wording::from_pq(filling),
-        wording::version(filling),
+        &plan_words::source(filling),
+        &plan_words::target(filling),
+        &plan_words::floats(filling),
+        plan_words::detect_peak(filling),
+        plan_words::from_pq(filling),
+        plan_words::version(filling),
         &mut block,
         &mut told,
     );

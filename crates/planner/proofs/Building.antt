@@ -13,14 +13,14 @@ use Rattle.op.specs.declared.Op.{Op}
 use Rattle.list.specs.declared.Plan.{Plan}
 use Rattle.list.proofs.Building.{appended-append, appends, ops-of, plan-true}
 use Rattle.list.proofs.Formed.{lawful-exactly}
-use Rattle.merge.specs.Merge.{merge_ops, merge_of}
+use Rattle.list_merge.specs.Merge.{merge_ops, merge_of}
 use Rattle.encoding.specs.Encodings.{channels_of}
 use Rattle.encoding.specs.Named.{same_space}
 use Rattle.encoding.specs.declared.ColourSpace.TheVariants as S
 use Rattle.encoding.specs.declared.EnumColourEncoding.{EnumColourEncoding}
 use Rattle.encoding.specs.declared.Settings.{Settings}
-use Rattle.stages.specs.Stages.{decode_ops, decoded, convert_ops, converted, tone_map_ops, pq_to_hlg_ops, curve_ops, stage_ops}
-use Rattle.stages.proofs.Length.{at_most_ten}
+use Rattle.plan_stages.specs.Stages.{decode_ops, decoded, convert_ops, converted, tone_map_ops, pq_to_hlg_ops, curve_ops, stage_ops}
+use Rattle.plan_stages.proofs.Length.{at_most_ten}
 
 five : (p : Plan) (a b c d e : List Op) → appended (appended (appended (appended (appended p a) b) c) d) e ≡ appended p (a ++ (b ++ (c ++ (d ++ e))))
 five p a b c d e =

@@ -7,8 +7,8 @@ use Rattle.list.specs.Lists.{ops_of}
 use Rattle.op.specs.declared.Op.{Op}
 use Rattle.op.specs.declared.Op.TheVariants as O
 use Rattle.list.proofs.Building.{ops-of}
-use Rattle.merge.specs.Merge.{merge_ops}
-use Rattle.merge.proofs.Settled.{no_two_matrices}
+use Rattle.list_merge.specs.Merge.{merge_ops}
+use Rattle.list_merge.proofs.Settled.{no_two_matrices}
 use Rattle.encoding.specs.declared.ColourEncoding.{ColourEncoding}
 use Rattle.encoding.specs.declared.Settings.{Settings}
 use Rattle.planner.specs.Planning.{planned_of}

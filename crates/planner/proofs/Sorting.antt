@@ -14,7 +14,7 @@ use Rattle.notation.proofs.Order.{one-given}
 use Rattle.list.specs.Lists.{plan_of, no_list}
 use Rattle.op.specs.declared.Op.{Op}
 use Rattle.op.proofs.Retired.{unknown_exactly}
-use Rattle.merge.specs.Merge.{merge_ops}
+use Rattle.list_merge.specs.Merge.{merge_ops}
 use Rattle.encoding.specs.Encodings.{channels_of}
 use Rattle.encoding.specs.Equivalence.{equivalent, Equivalent}
 use Rattle.encoding.specs.Ranges.{Outside}
@@ -23,7 +23,7 @@ use Rattle.encoding.specs.declared.EnumColourEncoding.{EnumColourEncoding}
 use Rattle.encoding.specs.declared.ColourEncoding.{ColourEncoding}
 use Rattle.encoding.specs.declared.ColourEncoding.TheVariants as E
 use Rattle.encoding.specs.declared.Settings.{Settings}
-use Rattle.stages.specs.Stages.{stage_ops}
+use Rattle.plan_stages.specs.Stages.{stage_ops}
 use Rattle.encoding.proofs.SameValues.{same_space-exactly}
 use Rattle.encoding.proofs.Equivalence.{equivalent-exactly}
 use Rattle.encoding.proofs.OutOfRange.{outside-exactly}

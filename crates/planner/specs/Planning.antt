@@ -6,7 +6,7 @@ use Rattle.notation.specs.declared.Answer.{Answer}
 use Rattle.list.specs.Lists.{plan_of, no_list}
 use Rattle.op.specs.Retired.{is_unknown}
 use Rattle.op.specs.declared.Op.{Op}
-use Rattle.merge.specs.Merge.{merge_ops}
+use Rattle.list_merge.specs.Merge.{merge_ops}
 use Rattle.encoding.specs.Encodings.{channels_of}
 use Rattle.encoding.specs.Named.{same_space}
 use Rattle.encoding.specs.Equivalence.{equivalent}
@@ -16,7 +16,7 @@ use Rattle.encoding.specs.declared.EnumColourEncoding.{EnumColourEncoding}
 use Rattle.encoding.specs.declared.ColourEncoding.{ColourEncoding}
 use Rattle.encoding.specs.declared.ColourEncoding.TheVariants as E
 use Rattle.encoding.specs.declared.Settings.{Settings}
-use Rattle.stages.specs.Stages.{stage_ops}
+use Rattle.plan_stages.specs.Stages.{stage_ops}
 use Rattle.planner.specs.declared.PlanError.{PlanError}
 use Rattle.planner.specs.declared.PlanError.TheVariants.{Icc, OutOfRange, Retired, Unsupported}
 use Rattle.planner.specs.declared.Planned.{Planned}

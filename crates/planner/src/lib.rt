@@ -4,7 +4,7 @@
 ghost use Rattle.std.specs.Prelude.{◌≡◌, Err};
 ghost use Rattle.list.specs.Lists.{plan_of};
 ghost use Rattle.encoding.specs.Encodings.{channels_of};
-ghost use Rattle.stages.specs.Stages.{stage_ops};
+ghost use Rattle.plan_stages.specs.Stages.{stage_ops};
 ghost use Rattle.planner.specs.Planning.{paper, out_of_range, has_unknown, retired, unsupported, refusal, planned, planned_of};
 
 use encoding::{ColourEncoding, ColourSpace, EnumColourEncoding, Settings};
@@ -35,14 +35,14 @@ pub struct Planned {
 fn unmerged(source: EnumColourEncoding, target: EnumColourEncoding, settings: Settings) -> Plan
     ensures { result ≡ plan_of (channels_of source) (stage_ops source target settings) }
 {
-    let current = stages::decoded(source);
-    let reached = stages::converted(current, target);
+    let current = plan_stages::decoded(source);
+    let reached = plan_stages::converted(current, target);
     let empty = list::empty(encoding::channels(source));
-    let linear = stages::decode(empty, source, settings);
-    let converted = stages::convert(linear, current, target);
-    let mapped = stages::tone_map(converted, reached, target, settings);
-    let hlg = stages::pq_to_hlg(mapped, reached, target, settings);
-    stages::target_curve(hlg, reached, target, settings)
+    let linear = plan_stages::decode(empty, source, settings);
+    let converted = plan_stages::convert(linear, current, target);
+    let mapped = plan_stages::tone_map(converted, reached, target, settings);
+    let hlg = plan_stages::pq_to_hlg(mapped, reached, target, settings);
+    plan_stages::target_curve(hlg, reached, target, settings)
 }
 
 fn is_out_of_range(source: EnumColourEncoding, target: EnumColourEncoding) -> bool
@@ -101,7 +101,7 @@ fn plan_enum(source: EnumColourEncoding, target: EnumColourEncoding, settings: S
     }
     Planned {
         answer: Ok(()),
-        plan: merge::merge(unmerged(source, target, settings)).plan,
+        plan: list_merge::merge(unmerged(source, target, settings)).plan,
     }
 }
 

@@ -89,9 +89,9 @@ fn run_plan(rt: &HostRuntime, plan: Plan, numbers: Numbers, input: &mut Ahead) -
     if plan.start != numbers.channels {
         return channels_refused(rt, plan.start);
     }
-    let opened = strips::open(strips::closed(), plan);
+    let opened = run_strips::open(run_strips::closed(), plan);
     let Ok(end) = opened.answer else {
-        let judged = judge::paper(opened.answer);
+        let judged = run_check::paper(opened.answer);
         return saying::refuse_by(rt, "planrun", judged.number as u64, judged.position as u64);
     };
     let run = Run {
@@ -113,9 +113,9 @@ fn run_picture(rt: &HostRuntime, plan: Plan, input: &mut Ahead) -> io::Result<()
 
 // The block at the front of the input, and the picture behind it.
 fn run_block(rt: &HostRuntime, input: &mut Ahead) -> io::Result<()> {
-    let block = block::read(input.held());
+    let block = block_read::read(input.held());
     if block.answer.is_err() {
-        let read = block::paper(block.answer);
+        let read = block_read::paper(block.answer);
         return saying::refuse_by(rt, "planrun", read.number as u64, 0);
     }
     input.pass(block.used);

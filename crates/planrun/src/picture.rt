@@ -3,9 +3,9 @@
 ghost use Rattle.std.specs.Prelude.{◌≤◌};
 
 use pfm::{Numbers, Unfit};
+use run_strips::State;
 use std::io;
 use std::io::IsTerminal;
-use strips::State;
 
 fn put(
     end: u8,
@@ -42,7 +42,7 @@ fn on_samples(
 ) -> io::Result<Run> {
     let numbers = run.numbers;
     let _ = pfm::channels_from(numbers.channels, bytes, numbers.little, a, b, c);
-    let state = strips::strip(run.state, a, b, c).state;
+    let state = run_strips::strip(run.state, a, b, c).state;
     let _ = put(run.end, numbers.little, a, b, c, out);
     rt.write_all(out)?;
     let mut next = run;
@@ -91,7 +91,7 @@ pub(crate) fn show_progress(rt: &HostRuntime, left: u64, all: u64) -> io::Result
 
 // The width that the run ended at, and how many samples went bad.
 pub(crate) fn report(rt: &HostRuntime, state: State) -> io::Result<()> {
-    let closed = strips::close(state);
+    let closed = run_strips::close(state);
     let width = closed.answer.unwrap_or(0);
     let bad = closed.bad;
     eprintln!(rt; "planrun: width {width}, bad samples {bad}")

@@ -19,9 +19,9 @@ fn put_pixels(
     out: &mut [u8],
     file: &mut File,
 ) -> io::Result<()> {
-    let _ = screen::screen_bytes(a, red);
-    let _ = screen::screen_bytes(b, green);
-    let _ = screen::screen_bytes(c, blue);
+    let _ = screen_bytes::screen_bytes(a, red);
+    let _ = screen_bytes::screen_bytes(b, green);
+    let _ = screen_bytes::screen_bytes(c, blue);
     let _ = pfm::pixels_to(red, green, blue, out);
     file.write_all(out)
 }

@@ -14,11 +14,11 @@ use Rattle.list.specs.Lists.{ops_of, Lawful, Unlawful}
 use Rattle.list.specs.Fits.{Fits, FailsAt}
 use Rattle.list.specs.declared.Plan.{Plan}
 use Rattle.list.proofs.Formed.{never_both}
-use Rattle.judge.specs.Carried.{AllCarried, UncarriedAt}
-use Rattle.judge.specs.Judging.{judge_of}
-use Rattle.judge.specs.Judging.{Judgement}
-use Rattle.judge.specs.declared.JudgeError.TheVariants as Judge
-use Rattle.judge.proofs.Judged as Judged
+use Rattle.run_check.specs.Carried.{AllCarried, UncarriedAt}
+use Rattle.run_check.specs.Judging.{judge_of}
+use Rattle.run_check.specs.Judging.{Judgement}
+use Rattle.run_check.specs.declared.JudgeError.TheVariants as Judge
+use Rattle.run_check.proofs.Judged as Judged
 use Rattle.run.specs.Refusals.{outcome_by, outcome_of, paper}
 use Rattle.run.specs.Refusals.{Outcome}
 use Rattle.run.specs.declared.RunError.TheVariants.{Malformed, Unequal, Misfit, NotCarried}

@@ -11,13 +11,13 @@ use Rattle.ciexyz.specs.Matrix.{applied}
 use Rattle.ciexyz.specs.declared.Vec3.{Vec3}
 use Rattle.ciexyz.specs.declared.Xy.{Xy}
 use Rattle.channels.specs.Channels.{Channels, EquallyLong, each, triples, vec}
-use Rattle.xyb.specs.Xyb.{mixed_lms}
+use Rattle.step_xyb.specs.Xyb.{mixed_lms}
 use Rattle.steps.specs.Samples.{clipped_if, clipped_within, luma_of_xyz, xyz_of_luma}
 use Rattle.op.specs.Table.{Step, xyb, matrix, ootf, tone_map, gamut_map, hlg, from_luma, to_luma, tone_map_luma, clip, curve}
 use Rattle.op.specs.declared.Op.{Op}
 use Rattle.op.proofs.Steps.{step_gives}
-use Rattle.apply.specs.Apply.{after_op}
-use Rattle.apply.proofs.Even.{after-even}
+use Rattle.run_op.specs.Apply.{after_op}
+use Rattle.run_op.proofs.Even.{after-even}
 use Rattle.list.specs.Fits.{Fits, none, more}
 use Rattle.run.specs.Reach.{Agree}
 use Rattle.run.specs.Run.{run_ops}

@@ -9,8 +9,8 @@ use Rattle.channels.specs.Channels.{Channels, EquallyLong}
 use Rattle.list.specs.Lists.{ops_of, Lawful, Unlawful}
 use Rattle.list.specs.Fits.{Fits, FailsAt}
 use Rattle.list.specs.declared.Plan.{Plan}
-use Rattle.judge.specs.Carried.{AllCarried, UncarriedAt}
-use Rattle.judge.proofs.Telling.{told-exactly}
+use Rattle.run_check.specs.Carried.{AllCarried, UncarriedAt}
+use Rattle.run_check.proofs.Telling.{told-exactly}
 use Rattle.run.specs.Refusals.{outcome_of, paper}
 use Rattle.run.specs.Refusals.{Outcome}
 use Rattle.run.specs.declared.RunError.TheVariants.{Malformed, Unequal, Misfit, NotCarried}

@@ -7,9 +7,9 @@ use Rattle.channels.specs.Channels.{Channels, EquallyLong, channels}
 use Rattle.channels.specs.Joined.{join}
 use Rattle.op.specs.Widths.{gives_of}
 use Rattle.op.specs.declared.Op.{Op}
-use Rattle.apply.specs.Apply.{after_op}
-use Rattle.apply.proofs.Even.{after-even}
-use Rattle.apply.proofs.Joining.{after-joins, after_none}
+use Rattle.run_op.specs.Apply.{after_op}
+use Rattle.run_op.proofs.Even.{after-even}
+use Rattle.run_op.proofs.Joining.{after-joins, after_none}
 use Rattle.run.specs.Run.{run_ops}
 
 pub ops-join : (w : ℕ) (os : List Op) (s t : Channels) → EquallyLong s → run_ops w os (join s t) ≡ join (run_ops w os s) (run_ops w os t)

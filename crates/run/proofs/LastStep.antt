@@ -9,12 +9,12 @@ use Rattle.notation.specs.Choice.{when◌then◌else◌}
 use Rattle.channels.specs.Channels.{Channels, EquallyLong}
 use Rattle.channels.specs.Stepping.{unequal}
 use Rattle.channels.proofs.Lengths.{equal_exactly}
-use Rattle.counts.specs.Bad.{count_of, report_of}
+use Rattle.bad_samples.specs.Bad.{count_of, report_of}
 use Rattle.op.specs.Widths.{gives_of}
 use Rattle.op.specs.declared.Op.{Op}
 use Rattle.op.proofs.Steps.{step_gives}
-use Rattle.apply.specs.Apply.{after_op, own_step}
-use Rattle.apply.proofs.Even.{after-even}
+use Rattle.run_op.specs.Apply.{after_op, own_step}
+use Rattle.run_op.proofs.Even.{after-even}
 use Rattle.list.specs.Fits.{Fits, none, more}
 use Rattle.list.specs.Lists.{ops_of}
 use Rattle.list.specs.declared.Plan.{Plan}

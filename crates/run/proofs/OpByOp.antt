@@ -8,7 +8,7 @@ use Rattle.channels.specs.Channels.{Channels}
 use Rattle.op.specs.Widths.{gives_of}
 use Rattle.op.specs.declared.Op.{Op}
 use Rattle.op.proofs.Steps.{step_gives}
-use Rattle.apply.specs.Apply.{after_op}
+use Rattle.run_op.specs.Apply.{after_op}
 use Rattle.list.specs.Lists.{ops_of}
 use Rattle.list.specs.Fits.{Fits, none, more}
 use Rattle.list.specs.declared.Plan.{Plan}

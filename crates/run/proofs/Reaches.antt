@@ -10,7 +10,7 @@ use Rattle.list.specs.Check.{check_of}
 use Rattle.list.specs.Lists.{ops_of}
 use Rattle.list.specs.declared.Plan.{Plan}
 use Rattle.list.proofs.Exactly.{passes-exactly}
-use Rattle.judge.specs.Carried.{AllCarried}
+use Rattle.run_check.specs.Carried.{AllCarried}
 use Rattle.run.specs.Reach.{Agree}
 use Rattle.run.specs.Refusals.{outcome_of, paper}
 use Rattle.run.specs.Run.{ran_of}

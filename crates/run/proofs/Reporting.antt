@@ -5,7 +5,7 @@ use Prim.Native.Nat.{ℕ}
 use mathlib.Core.Path.{◌≡◌, ap, refl, ◌∙◌}
 use Rattle.notation.specs.declared.Answer.{Answer}
 use Rattle.channels.specs.Channels.{Channels}
-use Rattle.counts.specs.Bad.{count_of}
+use Rattle.bad_samples.specs.Bad.{count_of}
 use Rattle.list.specs.declared.Plan.{Plan}
 use Rattle.run.specs.Refusals.{outcome_of, paper}
 use Rattle.run.specs.Report.{bad_after, reported_of}

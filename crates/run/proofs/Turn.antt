@@ -7,7 +7,7 @@ use lib.ListN.{drop, get_or, length}
 use Rattle.channels.specs.Channels.{Channels, EquallyLong, where_equal}
 use Rattle.channels.proofs.Lengths.{equal_exactly}
 use Rattle.op.specs.Widths.{gives_of}
-use Rattle.apply.specs.Apply.{after_op}
+use Rattle.run_op.specs.Apply.{after_op}
 use Rattle.list.specs.Lists.{op_of}
 use Rattle.list.specs.declared.Slot.{Slot}
 use Rattle.list.proofs.Walk.{next-op, no_more}

@@ -5,9 +5,9 @@ use Rattle.notation.specs.Answers.{answer}
 use Rattle.notation.specs.declared.Answer.{Answer}
 use Rattle.channels.specs.Channels.{Channels, equally_long}
 use Rattle.list.specs.declared.Plan.{Plan}
-use Rattle.judge.specs.Judging.{judge_of}
-use Rattle.judge.specs.Judging.{Judgement}
-use Rattle.judge.specs.declared.JudgeError.TheVariants as Judge
+use Rattle.run_check.specs.Judging.{judge_of}
+use Rattle.run_check.specs.Judging.{Judgement}
+use Rattle.run_check.specs.declared.JudgeError.TheVariants as Judge
 use Rattle.run.specs.declared.RunError.{RunError}
 use Rattle.run.specs.declared.RunError.TheVariants.{Malformed, Unequal, Misfit, NotCarried}
 

@@ -2,7 +2,7 @@
 -- Definitions only.
 use Rattle.std.specs.Prelude.{ℕ, Ok, Err}
 use Rattle.channels.specs.Channels.{Channels}
-use Rattle.counts.specs.Bad.{count_of}
+use Rattle.bad_samples.specs.Bad.{count_of}
 use Rattle.list.specs.declared.Plan.{Plan}
 use Rattle.run.specs.Refusals.{outcome_of}
 use Rattle.run.specs.Run.{ran_of}

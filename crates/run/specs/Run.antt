@@ -3,7 +3,7 @@ use Rattle.std.specs.Prelude.{ℕ, List, [], ◌∷◌, Ok, Err}
 use Rattle.channels.specs.Channels.{Channels}
 use Rattle.op.specs.Widths.{gives_of}
 use Rattle.op.specs.declared.Op.{Op}
-use Rattle.apply.specs.Apply.{after_op}
+use Rattle.run_op.specs.Apply.{after_op}
 use Rattle.list.specs.Lists.{ops_of}
 use Rattle.list.specs.declared.Plan.{Plan}
 use Rattle.run.specs.Refusals.{outcome_of}

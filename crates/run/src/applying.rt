@@ -14,7 +14,7 @@ pub(crate) fn run_ops(ops: &[Slot], start: u8, a: &mut [f32], b: &mut [f32], c: 
 {
     let mut width = start;
     for slot in ops {
-        let _ = apply::apply(slot.op, width, a, b, c);
+        let _ = run_op::apply(slot.op, width, a, b, c);
         width = op::gives(slot.op, width);
     }
 }

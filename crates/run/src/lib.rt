@@ -40,6 +40,6 @@ pub fn run(plan: Plan, a: &mut [f32], b: &mut [f32], c: &mut [f32]) -> Ran
     ensures c_after { channels a.new b.new c.new ≡ ran_of plan (channels a.old b.old c.old) }
 {
     let outcome = running::run_samples(plan, a, b, c);
-    let bad = counts::count(outcome.unwrap_or(0), a, b, c);
+    let bad = bad_samples::count(outcome.unwrap_or(0), a, b, c);
     Ran { outcome, bad }
 }

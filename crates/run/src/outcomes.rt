@@ -3,8 +3,8 @@ ghost use Rattle.std.specs.Prelude.{◌≡◌};
 ghost use Rattle.run.specs.Refusals.{paper, outcome_by};
 
 use crate::RunError;
-use judge::JudgeError;
 use notation::Answer;
+use run_check::JudgeError;
 
 // The paper's answer.
 pub fn paper(outcome: Result<u8, RunError>) -> Answer

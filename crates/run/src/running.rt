@@ -19,7 +19,7 @@ pub(crate) fn run_samples(
     ensures c_after { channels a.new b.new c.new ≡ ran_of plan (channels a.old b.old c.old) }
 {
     let same = channels::same_lengths(a.len(), b.len(), c.len());
-    let width = outcomes::outcome_by(judge::judge(plan), same)?;
+    let width = outcomes::outcome_by(run_check::judge(plan), same)?;
     applying::run_ops(&plan.ops[..plan.count], plan.start, a, b, c);
     Ok(width)
 }

@@ -7,7 +7,7 @@ use mathlib.Core.List.{List, [], ◌∷◌, map}
 use lib.Ieee.{Float, fin, inf, is_nan, lt, nan, of_bits}
 use Rattle.notation.specs.Choice.{when◌then◌else◌}
 use Rattle.notation.specs.F32.{one, zero}
-use Rattle.counts.specs.Bad.{bad_in, is_bad}
+use Rattle.bad_samples.specs.Bad.{bad_in, is_bad}
 use Rattle.steps.specs.Samples.{clip_of}
 
 -- how many NaNs

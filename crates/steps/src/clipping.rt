@@ -4,10 +4,10 @@ ghost use Rattle.std.specs.Prelude.{◌≡◌};
 ghost use Rattle.channels.specs.Channels.{channels, where_equal};
 ghost use Rattle.channels.specs.Stepping.{step_of};
 ghost use Rattle.steps.specs.Samples.{clip_of, clipped_if, clipped_within};
-ghost use Rattle.counts.specs.Bad.{stepped_of};
+ghost use Rattle.bad_samples.specs.Bad.{stepped_of};
 
+use bad_samples::Stepped;
 use channels::Unequal;
-use counts::Stepped;
 
 // NaN and minus zero stay.
 pub fn clipped(x: f32) -> f32
@@ -46,5 +46,5 @@ pub fn clip(width: u8, a: &mut [f32], b: &mut [f32], c: &mut [f32]) -> Stepped
     ensures c_after { channels a.new b.new c.new ≡ where_equal (clipped_within width) (channels a.old b.old c.old) }
 {
     let answer = clip_samples(width, a, b, c);
-    counts::report(answer, a, b, c)
+    bad_samples::report(answer, a, b, c)
 }

@@ -3,10 +3,10 @@
 ghost use Rattle.std.specs.Prelude.{◌≡◌};
 ghost use Rattle.channels.specs.Channels.{channels};
 ghost use Rattle.channels.specs.Stepping.{step_of};
-ghost use Rattle.counts.specs.Bad.{report_of};
+ghost use Rattle.bad_samples.specs.Bad.{report_of};
 
+use bad_samples::Stepped;
 use channels::Unequal;
-use counts::Stepped;
 
 // No effect.
 pub fn unchanged_samples(width: u8, a: &[f32], b: &[f32], c: &[f32]) -> Result<u8, Unequal>
@@ -23,5 +23,5 @@ pub fn unchanged(width: u8, a: &[f32], b: &[f32], c: &[f32]) -> Stepped
     ensures { result ≡ report_of (step_of width (channels a.now b.now c.now)) (channels a.now b.now c.now) }
 {
     let answer = unchanged_samples(width, a, b, c);
-    counts::report(answer, a, b, c)
+    bad_samples::report(answer, a, b, c)
 }

@@ -4,11 +4,11 @@ ghost use Rattle.std.specs.Prelude.{◌≡◌};
 ghost use Rattle.ciexyz.specs.Matrix.{applied};
 ghost use Rattle.channels.specs.Channels.{channels, each, where_equal};
 ghost use Rattle.channels.specs.Stepping.{step_of};
-ghost use Rattle.counts.specs.Bad.{stepped_of};
+ghost use Rattle.bad_samples.specs.Bad.{stepped_of};
 
+use bad_samples::Stepped;
 use channels::Unequal;
 use ciexyz::{Mat3, Vec3};
-use counts::Stepped;
 
 pub fn matrix_samples(m: Mat3, a: &mut [f32], b: &mut [f32], c: &mut [f32]) -> Result<u8, Unequal>
     ensures value { result ≡ step_of 3 (channels a.old b.old c.old) }
@@ -37,5 +37,5 @@ pub fn matrix(m: Mat3, a: &mut [f32], b: &mut [f32], c: &mut [f32]) -> Stepped
     ensures c_after { channels a.new b.new c.new ≡ where_equal (each (applied m)) (channels a.old b.old c.old) }
 {
     let answer = matrix_samples(m, a, b, c);
-    counts::report(answer, a, b, c)
+    bad_samples::report(answer, a, b, c)
 }

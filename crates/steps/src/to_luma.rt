@@ -4,10 +4,10 @@ ghost use Rattle.std.specs.Prelude.{◌≡◌};
 ghost use Rattle.channels.specs.Channels.{channels, where_equal};
 ghost use Rattle.channels.specs.Stepping.{step_of};
 ghost use Rattle.steps.specs.Samples.{luma_of_xyz};
-ghost use Rattle.counts.specs.Bad.{stepped_of};
+ghost use Rattle.bad_samples.specs.Bad.{stepped_of};
 
+use bad_samples::Stepped;
 use channels::Unequal;
-use counts::Stepped;
 
 // a takes b; b and c stay.
 pub fn xyz_to_luma_samples(a: &mut [f32], b: &[f32], c: &[f32]) -> Result<u8, Unequal>
@@ -27,5 +27,5 @@ pub fn xyz_to_luma(a: &mut [f32], b: &[f32], c: &[f32]) -> Stepped
     ensures c_after { channels a.new b.now c.now ≡ where_equal luma_of_xyz (channels a.old b.now c.now) }
 {
     let answer = xyz_to_luma_samples(a, b, c);
-    counts::report(answer, a, b, c)
+    bad_samples::report(answer, a, b, c)
 }

@@ -4,11 +4,11 @@ ghost use Rattle.std.specs.Prelude.{◌≡◌};
 ghost use Rattle.channels.specs.Channels.{channels, each, where_equal};
 ghost use Rattle.channels.specs.Stepping.{step_of};
 ghost use Rattle.steps.specs.Samples.{xyz_of_luma};
-ghost use Rattle.counts.specs.Bad.{stepped_of};
+ghost use Rattle.bad_samples.specs.Bad.{stepped_of};
 
+use bad_samples::Stepped;
 use channels::Unequal;
 use ciexyz::Xy;
-use counts::Stepped;
 
 pub fn luma_to_xyz_samples(
     illuminant: Xy,
@@ -40,5 +40,5 @@ pub fn luma_to_xyz(illuminant: Xy, a: &mut [f32], b: &mut [f32], c: &mut [f32]) 
     ensures c_after { channels a.new b.new c.new ≡ where_equal (each (xyz_of_luma illuminant)) (channels a.old b.old c.old) }
 {
     let answer = luma_to_xyz_samples(illuminant, a, b, c);
-    counts::report(answer, a, b, c)
+    bad_samples::report(answer, a, b, c)
 }

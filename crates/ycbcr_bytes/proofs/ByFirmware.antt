@@ -5,11 +5,11 @@ use mathlib.Core.Path.{◌≡◌}
 use mathlib.Core.Bool.{Bool, true, false}
 use lib.Dec.{eqb}
 use Rattle.notation.specs.Choice.{when◌then◌else◌}
-use Rattle.weights.specs.Weights.{bt709, t871}
-use Rattle.weights.specs.Rgb.{rgb_of}
-use Rattle.firmware.specs.Firmware.{weights_of}
-use Rattle.pixel.specs.Factors.{factors_of, rgb_by}
-use Rattle.pixel.proofs.Weighed.{Short, by_factors, short_bt709, short_t871}
+use Rattle.ycbcr_weights.specs.Weights.{bt709, t871}
+use Rattle.ycbcr_weights.specs.Rgb.{rgb_of}
+use Rattle.ycbcr_firmware.specs.Firmware.{weights_of}
+use Rattle.ycbcr_pixel.specs.Factors.{factors_of, rgb_by}
+use Rattle.ycbcr_pixel.proofs.Weighed.{Short, by_factors, short_bt709, short_t871}
 
 short_of : (firmware : ℕ) → Short (weights_of firmware)
 short_of firmware = by (eqb firmware 4)

@@ -2,7 +2,7 @@
 -- Each is said to equal one value, so two are equal.
 use mathlib.Core.Path.{sym, ◌∙◌}
 use Rattle.notation.proofs.Determines.{Determines}
-use Rattle.planes.specs.Planes.{planes}
+use Rattle.ycbcr_planes.specs.Planes.{planes}
 use Rattle.ycbcr_bytes.proofs.ycbcr_to_rgb.Reads as ycbcr_to_rgb
 use Rattle.ycbcr_bytes.proofs.ycbcr_to_rgb.Kinds as ycbcr_to_rgb_kinds
 

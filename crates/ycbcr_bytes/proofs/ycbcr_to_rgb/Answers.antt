@@ -4,14 +4,14 @@ use Prim.Native.Nat.{ℕ, ◌<◌}
 use mathlib.Core.Path.{◌≡◌, ap, sym, ◌∙◌}
 use lib.ListN.{length}
 use Rattle.std.proofs.Common.{rules}
-use Rattle.weights.specs.Rgb.{rgb_of}
-use Rattle.firmware.specs.Firmware.{weights_of}
-use Rattle.firmware.specs.Conversion.{conversion_of}
-use Rattle.firmware.proofs.Exactly.{done-equal}
-use Rattle.pixel.specs.Factors.{factors_of, rgb_by}
-use Rattle.planes.specs.Planes.{equally_long, pixel_at, planes}
-use Rattle.planes.proofs.Exactly.{equal_exactly}
-use Rattle.planes.proofs.Placing.{each_placed}
+use Rattle.ycbcr_weights.specs.Rgb.{rgb_of}
+use Rattle.ycbcr_firmware.specs.Firmware.{weights_of}
+use Rattle.ycbcr_firmware.specs.Conversion.{conversion_of}
+use Rattle.ycbcr_firmware.proofs.Exactly.{done-equal}
+use Rattle.ycbcr_pixel.specs.Factors.{factors_of, rgb_by}
+use Rattle.ycbcr_planes.specs.Planes.{equally_long, pixel_at, planes}
+use Rattle.ycbcr_planes.proofs.Exactly.{equal_exactly}
+use Rattle.ycbcr_planes.proofs.Placing.{each_placed}
 use Rattle.ycbcr_bytes.proofs.ByFirmware.{by_firmware}
 use Rattle.ycbcr_bytes.proofs.ycbcr_to_rgb.Goals as goal
 

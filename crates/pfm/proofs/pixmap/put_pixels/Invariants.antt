@@ -3,7 +3,7 @@
 use lib.ListN.{drop}
 use Rattle.buffer.proofs.Putting.{Goes}
 use Rattle.channels.specs.Channels.{zip3}
-use Rattle.writer.specs.Bytes.{joined}
+use Rattle.block_write.specs.Bytes.{joined}
 use Rattle.pfm.specs.Pixmap.{pixel, three_bytes}
 use Rattle.pfm.proofs.pixmap.put_pixels.Given as goal
 

@@ -3,7 +3,7 @@
 use lib.ListN.{drop}
 use Rattle.buffer.proofs.Putting.{Goes}
 use Rattle.channels.specs.Channels.{triples}
-use Rattle.writer.specs.Bytes.{joined}
+use Rattle.block_write.specs.Bytes.{joined}
 use Rattle.pfm.specs.Samples.{pixel_bytes}
 use Rattle.pfm.proofs.samples.put_pixels.Given as goal
 

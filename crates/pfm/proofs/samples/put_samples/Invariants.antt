@@ -2,7 +2,7 @@
 -- The loop argument is `Laying`'s.
 use lib.ListN.{drop}
 use Rattle.buffer.proofs.Putting.{Goes}
-use Rattle.writer.specs.Bytes.{joined}
+use Rattle.block_write.specs.Bytes.{joined}
 use Rattle.pfm.specs.Samples.{sample_bytes}
 use Rattle.pfm.proofs.samples.put_samples.Given as goal
 

@@ -1,7 +1,0 @@
--- `one_if_bad` is 1 for a sample that is infinite or NaN.
--- No other is not finite.
-use Rattle.counts.proofs.Infinite.{not_finite}
-use Rattle.counts.proofs.one_if_bad.Goals as goal
-
-pub returns : goal.returns
-returns c = cc (not_finite c.args.x)

@@ -1,6 +1,0 @@
--- `main` is safe and ends.
--- Each turn leaves fewer turns.
-use Rattle.replay.proofs.main.Given as goal
-
-abbrev pub decreases-loop-p : goal.decreases-loop-p
-decreases-loop-p l = l.p.turns

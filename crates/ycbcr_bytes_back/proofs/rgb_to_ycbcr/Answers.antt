@@ -1,0 +1,27 @@
+-- `rgb_to_ycbcr` converts each pixel where `judge` lets it, and changes nothing where it does not.
+-- The answer Ok gives the lengths; each pixel is converted at its place.
+use Prim.Native.Nat.{ℕ, ◌<◌}
+use mathlib.Core.Path.{◌≡◌, ap, sym, ◌∙◌}
+use lib.ListN.{length}
+use Rattle.std.proofs.Common.{rules}
+use Rattle.ycbcr_luma.specs.Ycbcr.{ycbcr_of}
+use Rattle.ycbcr_firmware.specs.Conversion.{conversion_of}
+use Rattle.ycbcr_firmware.proofs.Exactly.{done-equal}
+use Rattle.ycbcr_planes.specs.Planes.{equally_long, pixel_at, planes}
+use Rattle.ycbcr_planes.proofs.Exactly.{equal_exactly}
+use Rattle.ycbcr_planes.proofs.Placing.{each_placed}
+use Rattle.ycbcr_bytes_back.proofs.rgb_to_ycbcr.Goals as goal
+
+pub returns-clause-cr_after : goal.returns-clause-cr_after
+returns-clause-cr_after c =
+    let a = c.args in
+    let n = a.firmware in
+    let o = c.each_place.new in
+    let s = planes a.r.now a.g.now a.b.now in
+    let t = planes a.cb.now a.y.now a.cr.now in
+    let u = planes o.r o.g o.b in
+    let e = c.in_ok-judge.ensures ∙ ap (conversion_of n) c.same_lengths-equal.ensures in
+    let f = ap ycbcr_of c.weights_of-w.ensures in
+    let at : (i : ℕ) → i < length t.a → pixel_at u i ≡ ycbcr_of c.weights_of-w.result (pixel_at s i) = λ i h. search (rules, c.each_place.ensures i h) in
+    let l = (equal_exactly s t).0 (done-equal n (equally_long s t) e) in
+    rw (sym e, sym f) (each_placed _ s t u l c.each_place.auto.r c.each_place.auto.g c.each_place.auto.b at)
