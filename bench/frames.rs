@@ -1,17 +1,12 @@
 //! Frames of three channels, by the given loops and by our C functions: compared bit for bit, and timed (W14).
 //!
-//! The given loops are those of jxl-color 0.11.0, which `bench/run frames` cuts from its files when it builds this. With `--cfg linked` our functions are
-//! linked in and timed; without it the program is given the command that starts them elsewhere (`bench/frames_ours.c`), and only compares.
+//! The given loops are those of jxl-color 0.11.0, which `bench/run frames` cuts from its files when it builds this. Ours are linked in.
 
 use std::hint::{black_box, spin_loop};
 use std::sync::atomic::{AtomicUsize, Ordering::*};
 use std::thread;
 use std::time::Instant;
 
-#[cfg(not(linked))]
-#[path = "frames/asked.rs"]
-mod ours;
-#[cfg(linked)]
 #[path = "frames/linked.rs"]
 mod ours;
 
@@ -209,18 +204,14 @@ fn main() {
         println!("{:<24}{all} compared, {other} differ", work.name);
         differ += other;
     }
-    if !cfg!(linked) {
-        println!("nothing is timed on {}", std::env::consts::ARCH);
-    } else {
-        println!(
-            "\nwhat, samples of a channel, cores, by whom, median and best of {ROUNDS} in microseconds, ratios of medians"
-        );
-        for work in &WORKS {
-            for samples in SIZES {
-                let frame = samples::picture(work.kind, samples);
-                print(work, samples, 1, &timed_alone(work, &frame));
-                print(work, samples, 2, &timed_by_two(work, &frame));
-            }
+    println!(
+        "\nwhat, samples of a channel, cores, by whom, median and best of {ROUNDS} in microseconds, ratios of medians"
+    );
+    for work in &WORKS {
+        for samples in SIZES {
+            let frame = samples::picture(work.kind, samples);
+            print(work, samples, 1, &timed_alone(work, &frame));
+            print(work, samples, 2, &timed_by_two(work, &frame));
         }
     }
     std::process::exit((differ != 0) as i32);

@@ -9,19 +9,12 @@
 #include <stdio.h>
 #include <string.h>
 #include <time.h>
+#include "rindsaddle.h"
 
-float rindsaddle_mul_add(float a, float b, float c);
-float rindsaddle_cbrt(float x);
-uint8_t rindsaddle_screen_bytes(const float *samples, size_t count, uint8_t *bytes, size_t room);
 float before_cbrt(float x);
 void plain_screen_bytes(const float *samples, uint8_t *bytes, size_t count);
-uint8_t rindsaddle_ycbcr_bytes(uint32_t firmware, const uint8_t *cb, size_t n_cb, const uint8_t *y, size_t n_y, const uint8_t *cr, size_t n_cr,
-                               uint8_t *r, size_t n_r, uint8_t *g, size_t n_g, uint8_t *b, size_t n_b);
 void plain_ycbcr_bytes(const uint8_t *cb, const uint8_t *y, const uint8_t *cr, uint8_t *r, uint8_t *g, uint8_t *b, size_t count);
-uint8_t rindsaddle_rgb_bytes(uint32_t firmware, const uint8_t *r, size_t n_r, const uint8_t *g, size_t n_g, const uint8_t *b, size_t n_b,
-                             uint8_t *cb, size_t n_cb, uint8_t *y, size_t n_y, uint8_t *cr, size_t n_cr);
 void plain_rgb_bytes(const uint8_t *r, const uint8_t *g, const uint8_t *b, uint8_t *cb, uint8_t *y, uint8_t *cr, size_t count);
-uint8_t rindsaddle_code_levels(const uint16_t *codes, size_t count, float *levels, size_t room);
 void plain_code_levels(const uint16_t *table, const uint16_t *codes, float *levels, size_t count);
 
 enum { COUNT = 4096, TURNS = 2000, SAMPLES = 65536, FRAMES = 200 };

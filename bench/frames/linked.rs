@@ -3,71 +3,11 @@
 use crate::samples::{BIAS, Frame, INTENSITY, Kind, MATRIX, block};
 use std::sync::LazyLock;
 
-unsafe extern "C" {
-    fn rindsaddle_xyb_to_mixed_lms(
-        bias: *const f32,
-        intensity: f32,
-        x: *mut f32,
-        n_x: usize,
-        y: *mut f32,
-        n_y: usize,
-        b: *mut f32,
-        n_b: usize,
-    ) -> u8;
-    fn rindsaddle_matrix(
-        m: *const f32,
-        a: *mut f32,
-        n_a: usize,
-        b: *mut f32,
-        n_b: usize,
-        c: *mut f32,
-        n_c: usize,
-    ) -> u8;
-    fn rindsaddle_clip(
-        width: u8,
-        a: *mut f32,
-        n_a: usize,
-        b: *mut f32,
-        n_b: usize,
-        c: *mut f32,
-        n_c: usize,
-    ) -> u8;
-    fn rindsaddle_ycbcr(
-        firmware: u32,
-        cb: *mut f32,
-        n_cb: usize,
-        y: *mut f32,
-        n_y: usize,
-        cr: *mut f32,
-        n_cr: usize,
-    ) -> u8;
-    fn rindsaddle_count(
-        width: u8,
-        a: *const f32,
-        n_a: usize,
-        b: *const f32,
-        n_b: usize,
-        c: *const f32,
-        n_c: usize,
-    ) -> u64;
-    fn rindsaddle_screen_bytes(
-        samples: *const f32,
-        count: usize,
-        bytes: *mut u8,
-        room: usize,
-    ) -> u8;
-    fn rindsaddle_run(
-        block: *const u8,
-        size: usize,
-        a: *mut f32,
-        n_a: usize,
-        b: *mut f32,
-        n_b: usize,
-        c: *mut f32,
-        n_c: usize,
-        told: *mut u64,
-    ) -> u8;
-}
+#[path = "../../rust/src/ffi/raw.rs"]
+#[allow(dead_code)]
+mod raw;
+
+use raw::*;
 
 static BLOCK: LazyLock<Vec<u8>> = LazyLock::new(block);
 

@@ -39,10 +39,8 @@ fn main() {
 /// Where the given files are: `JXL_COLOR_SRC`, seen from the repository's top folder.
 fn given_folder(package: &Path) -> PathBuf {
     let top = package.ancestors().nth(2).unwrap();
-    match env::var_os("JXL_COLOR_SRC") {
-        Some(path) => top.join(path),
-        None => top.join("../shared/docs/src"),
-    }
+    let path = env::var_os("JXL_COLOR_SRC").expect("JXL_COLOR_SRC: set it to the folder of jxl-color 0.11.0's source");
+    top.join(path)
 }
 
 /// Copies the files that `given.sha256` lists, which has the form of `sha256sum`.

@@ -2,8 +2,6 @@
 -- Each is said to equal one value, so two are equal.
 use mathlib.Core.Path.{sym, ◌∙◌}
 use Rattle.notation.proofs.Determines.{Determines}
-use Rattle.c_plans.proofs.rindsaddle_plan.Reads as plan
-use Rattle.c_plans.proofs.rindsaddle_plan.Kinds as plan_kinds
 use Rattle.c_plans.proofs.rindsaddle_read.Reads as read
 use Rattle.c_plans.proofs.rindsaddle_read.Kinds as read_kinds
 use Rattle.c_plans.proofs.rindsaddle_check.Reads as check
@@ -16,15 +14,6 @@ use Rattle.c_plans.proofs.rindsaddle_join.Reads as join
 use Rattle.c_plans.proofs.rindsaddle_join.Kinds as join_kinds
 use Rattle.c_plans.proofs.rindsaddle_text.Reads as text
 use Rattle.c_plans.proofs.rindsaddle_text.Kinds as text_kinds
-
-pub plan-determines : Determines 5 plan_kinds.ps plan_kinds.r plan.Post (λ κs r s. r)
-plan-determines κs a x y s t p q = p.0 ∙ sym q.0
-
-pub plan-told_determines : Determines 5 plan_kinds.ps plan_kinds.r plan.Post (λ κs r s. s.1.1.1.1.1.1.1.0.now)
-plan-told_determines κs a x y s t p q = p.1.0 ∙ sym q.1.0
-
-pub plan-out_determines : Determines 5 plan_kinds.ps plan_kinds.r plan.Post (λ κs r s. s.1.1.1.1.1.1.0.now)
-plan-out_determines κs a x y s t p q = p.1.1 ∙ sym q.1.1
 
 pub read-determines : Determines 2 read_kinds.ps read_kinds.r read.Post (λ κs r s. r)
 read-determines κs a x y s t p q = p.0 ∙ sym q.0

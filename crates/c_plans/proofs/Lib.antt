@@ -2,5 +2,3 @@
 pub mod Untouched
 pub mod ReadBack
 pub mod Determined
--- laws of a list that is sent
-pub mod Sending

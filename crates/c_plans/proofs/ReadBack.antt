@@ -39,10 +39,10 @@ use Rattle.theorem_roundtrip.proofs.Rewriting.{same_block}
 use Rattle.encoding_numbers.specs.Sides.{side_of}
 use Rattle.encoding_numbers.specs.Floats.{settings_of}
 use Rattle.encoding_numbers.specs.Sides.{Side}
-use Rattle.c_plans.specs.Planned.{beside, planned_by, planned_from}
-use Rattle.c_plans.specs.Sent.{sent_after, left_after}
-use Rattle.c_plans.specs.Lists.{plan_sent, plan_left, rewrite_left}
-use Rattle.c_plans.proofs.Sending.{sent-whole}
+use Rattle.c_plan.specs.Planned.{beside, planned_by, planned_from}
+use Rattle.c_plan.specs.Sent.{sent_after, left_after, plan_sent, plan_left}
+use Rattle.c_plans.specs.Lists.{rewrite_left}
+use Rattle.c_plan.proofs.Sending.{sent-whole}
 
 -- a planned list is that of its ops
 abbrev Whole : Planned → Type 0

@@ -1,4 +1,4 @@
--- "a refusal leaves it untouched", and tells length 0: of planning, merging, writing again and joining; a refused reading tells zeros.
+-- "a refusal leaves it untouched", and tells length 0: of merging, writing again and joining; a refused reading tells zeros.
 -- What is refused before is not written, the writer leaves the bytes of what it refuses (Sending), and a refused block's list is the empty one.
 use Prim.Native.Nat.{ℕ}
 use mathlib.Core.Path.{◌≡◌, ap}
@@ -6,17 +6,12 @@ use mathlib.Core.List.{List}
 use lib.ListN.{length}
 use Rattle.notation.specs.declared.Answer.{Answer}
 use Rattle.list_merge.specs.Merge.{merge_of}
-use Rattle.planner.specs.Planning as P
-use Rattle.planner.specs.declared.Planned.{Planned}
 use Rattle.block_read.specs.Block.{paper, read_of}
 use Rattle.block_read.specs.declared.Block.{Block}
 use Rattle.block_read.proofs.Exactly.{refused-gives-nothing}
-use Rattle.c_plans.specs.Sent.{refused}
-use Rattle.c_plans.specs.Lists.{plan_sent, plan_left, read_sent, merge_sent, merge_left, rewrite_sent, rewrite_left, join_of_blocks, join_refusal, join_sent, join_left}
-use Rattle.c_plans.proofs.Sending.{untouched}
-
-pub plan-untouched : (p : Planned) (v : ℕ) (old : List ℕ) → ¬ ((plan_sent p v (length old)).number ≡ 0) → ((plan_sent p v (length old)).length ≡ 0) × (plan_left p v old ≡ old)
-plan-untouched p v old = untouched (P.paper p.answer).number p.plan v old
+use Rattle.c_plan.specs.Sent.{refused}
+use Rattle.c_plans.specs.Lists.{read_sent, merge_sent, merge_left, rewrite_sent, rewrite_left, join_of_blocks, join_refusal, join_sent, join_left}
+use Rattle.c_plan.proofs.Sending.{untouched}
 
 pub merge-untouched : (b : Block) (old : List ℕ) → ¬ ((merge_sent b (length old)).number ≡ 0) → ((merge_sent b (length old)).length ≡ 0) × (merge_left b old ≡ old)
 merge-untouched b old = untouched (paper b.answer).number (merge_of b.plan).plan b.version old

@@ -1,6 +1,5 @@
 -- What each function does with the lists of the blocks that it is given. Definitions only.
-use Rattle.std.specs.Prelude.{ℕ, List, [], ◌∷◌, eqb}
-use Rattle.notation.specs.Choice.{when◌then◌else◌}
+use Rattle.std.specs.Prelude.{ℕ, List, [], ◌∷◌}
 use Rattle.notation.specs.declared.Answer.{Answer}
 use Rattle.list.specs.Answer as L
 use Rattle.list.specs.Check.{check_of}
@@ -8,20 +7,12 @@ use Rattle.list.specs.Check.{Verdict}
 use Rattle.list_merge.specs.Merge.{merge_of}
 use Rattle.list_join.specs.Join.{join_of}
 use Rattle.list_join.specs.declared.Joined.{Joined}
-use Rattle.planner.specs.Planning as P
-use Rattle.planner.specs.declared.Planned.{Planned}
 use Rattle.block_read.specs.Block.{paper}
 use Rattle.block_read.specs.declared.Block.{Block}
 use Rattle.block_read.specs.Block.{Reading}
-use Rattle.c_plans.specs.Sent.{sent_after, left_after}
-use Rattle.c_plans.specs.declared.sent.Sent.{Sent}
-
--- a plan: "the planner's number, and where that is 0 the writer's"
-abbrev pub plan_sent : Planned → ℕ → ℕ → Sent
-plan_sent p version room = sent_after (P.paper p.answer).number p.plan version room
-
-abbrev pub plan_left : Planned → ℕ → List ℕ → List ℕ
-plan_left p version old = left_after (P.paper p.answer).number p.plan version old
+use Rattle.c_plan.specs.Sent.{sent_after, left_after}
+use Rattle.c_plan.specs.declared.sent.Sent.{Sent}
+use Rattle.c_told.specs.Told.{after_reading}
 
 -- reading: "the reader's number; told are number, length used, start width, end width": of a refused block's list all are 0
 abbrev pub read_sent : Block → Sent
@@ -29,7 +20,7 @@ read_sent b = record { number = (paper b.answer).number; length = b.used; start 
 
 -- a check: "the reader's refusal, else the check's"; told are "number, position, width, version of the block"
 abbrev pub checked_of : Block → Answer
-checked_of b = when eqb (paper b.answer).number 0 then L.paper (check_of b.plan) else paper b.answer
+checked_of b = after_reading b.answer (L.paper (check_of b.plan))
 
 abbrev pub check_told : Block → List ℕ
 check_told b = (checked_of b).number ∷ (checked_of b).position ∷ (checked_of b).width ∷ b.version ∷ []
@@ -50,9 +41,7 @@ rewrite_left b version old = left_after (paper b.answer).number b.plan version o
 
 -- joining: "the first block's refusal by the reader, else the second's, else joining's (10, 5 with its position), else the writer's"
 abbrev pub first_refusal : Reading → Reading → Verdict → Answer
-first_refusal first second verdict =
-    when eqb (paper first).number 0 then when eqb (paper second).number 0 then L.paper verdict else paper second
-    else paper first
+first_refusal first second verdict = after_reading first (after_reading second (L.paper verdict))
 
 abbrev pub join_of_blocks : Block → Block → Joined
 join_of_blocks b c = join_of b.plan c.plan

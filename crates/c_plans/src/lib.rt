@@ -5,42 +5,13 @@ ghost use Rattle.std.specs.Prelude.{◌≡◌, length};
 ghost use Rattle.buffer.specs.Buffer.{Listed};
 ghost use Rattle.block_text.specs.Listing.{text_of};
 ghost use Rattle.block_read.specs.Block.{read_of};
-ghost use Rattle.c_plans.specs.Planned.{planned_from};
-ghost use Rattle.c_plans.specs.Sent.{widths_told};
-ghost use Rattle.c_plans.specs.Lists.{first_refusal, read_sent, checked_of, check_told, plan_sent, plan_left, merge_sent, merge_left, rewrite_sent, rewrite_left, join_sent, join_told, join_left};
-
-mod planned; // planned.rt: planning between what numbers mean
-mod sent; // sent.rt: a list written into the caller's bytes, and what is told of it
+ghost use Rattle.c_plan.specs.Sent.{widths_told};
+ghost use Rattle.c_plans.specs.Lists.{first_refusal, read_sent, checked_of, check_told, merge_sent, merge_left, rewrite_sent, rewrite_left, join_sent, join_told, join_left};
 
 use block_read::{Block, ReadError};
+use c_plan::{Sent, send, send_and_tell, tell_widths};
 use list::CheckError;
 use notation::Answer;
-use planned::planned;
-use sent::{Sent, send, send_and_tell, tell, tell_widths};
-
-// The plan between two encodings, as a block of this version; told are its number, length, start width and end width.
-#[tactic(auto, unfolding(crate::specs::Planned::planned_from))]
-pub fn rindsaddle_plan(
-    source: &[i32; 14],
-    target: &[i32; 14],
-    settings: &[f32; 14],
-    detect_peak: u8,
-    from_pq: u8,
-    version: u16,
-    out: &mut [u8],
-    told: &mut [u64; 4],
-) -> u8
-    ensures value { result ≡ (plan_sent (planned_from source.now target.now settings.now detect_peak from_pq) version (length out.old)).number }
-    ensures told_after { told.new ≡ widths_told (plan_sent (planned_from source.now target.now settings.now detect_peak from_pq) version (length out.old)) }
-    ensures out_after { out.new ≡ plan_left (planned_from source.now target.now settings.now detect_peak from_pq) version out.old }
-{
-    let from = encoding_numbers::side_of(source);
-    let to = encoding_numbers::side_of(target);
-    let with = encoding_numbers::settings_of(settings, detect_peak, from_pq);
-    let plan = planned(from, to, with);
-    let number = planner::paper(plan.answer).number;
-    send_and_tell(number, plan.plan, version, out, told)
-}
 
 fn read_sent(block: Block) -> Sent
     ensures { result ≡ read_sent block }
@@ -67,10 +38,7 @@ pub fn rindsaddle_read(bytes: &[u8], told: &mut [u64; 4]) -> u8
 fn checked(block: Block) -> Answer
     ensures { result ≡ checked_of block }
 {
-    match block.answer {
-        Ok(()) => list::paper(list::check(block.plan)),
-        Err(e) => block_read::paper(Err(e)),
-    }
+    c_told::after_reading(block.answer, list::paper(list::check(block.plan)))
 }
 
 // What the check says of a block's list; told are number, position, width and the block's version.
@@ -80,7 +48,7 @@ pub fn rindsaddle_check(bytes: &[u8], told: &mut [u64; 4]) -> u8
 {
     let block = block_read::read(bytes);
     let answer = checked(block);
-    tell(
+    c_told::tell_numbers(
         told,
         answer.number as u64,
         answer.position as u64,
@@ -121,11 +89,7 @@ fn first_refusal(
 ) -> Answer
     ensures { result ≡ first_refusal first second verdict }
 {
-    match (first, second) {
-        (Ok(()), Ok(())) => list::paper(verdict),
-        (Ok(()), Err(e)) => block_read::paper(Err(e)),
-        (Err(e), _) => block_read::paper(Err(e)),
-    }
+    c_told::after_reading(first, c_told::after_reading(second, list::paper(verdict)))
 }
 
 // The list of one block behind that of another, as a block of this version; told are number, position, length and end width.
@@ -145,7 +109,7 @@ pub fn rindsaddle_join(
     let joined = list_join::join(one.plan, two.plan);
     let answer = first_refusal(one.answer, two.answer, joined.answer);
     let sent = send(answer.number, joined.plan, version, out);
-    tell(
+    c_told::tell_numbers(
         told,
         sent.number as u64,
         answer.position as u64,

@@ -1,13 +1,13 @@
-// Plans and lists as C functions: each calls its like of `c_plans`, under the same contract.
+// Plans and lists as C functions: each calls its like of `c_plan` or `c_plans`, under the same contract.
 #![tactic(auto)]
 
 ghost use Rattle.std.specs.Prelude.{◌≡◌, length};
 ghost use Rattle.buffer.specs.Buffer.{Listed};
 ghost use Rattle.block_text.specs.Listing.{text_of};
 ghost use Rattle.block_read.specs.Block.{read_of};
-ghost use Rattle.c_plans.specs.Planned.{planned_from};
-ghost use Rattle.c_plans.specs.Sent.{widths_told};
-ghost use Rattle.c_plans.specs.Lists.{read_sent, checked_of, check_told, plan_sent, plan_left, merge_sent, merge_left, rewrite_sent, rewrite_left, join_sent, join_told, join_left};
+ghost use Rattle.c_plan.specs.Planned.{planned_from};
+ghost use Rattle.c_plan.specs.Sent.{widths_told, plan_sent, plan_left};
+ghost use Rattle.c_plans.specs.Lists.{read_sent, checked_of, check_told, merge_sent, merge_left, rewrite_sent, rewrite_left, join_sent, join_told, join_left};
 
 // The plan between two encodings, as a block of this version; told are its number, length, start width and end width.
 #[unsafe(no_mangle)]
@@ -25,7 +25,7 @@ pub extern "C" fn rindsaddle_plan(
     ensures told_after { told.new ≡ widths_told (plan_sent (planned_from source.now target.now settings.now detect_peak from_pq) version (length out.old)) }
     ensures out_after { out.new ≡ plan_left (planned_from source.now target.now settings.now detect_peak from_pq) version out.old }
 {
-    c_plans::rindsaddle_plan(
+    c_plan::rindsaddle_plan(
         source,
         target,
         settings,

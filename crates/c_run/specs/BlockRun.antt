@@ -1,10 +1,8 @@
 -- A plan block read and its list run at once, on three lent channels: what is answered, told and left. Definitions only.
-use Rattle.std.specs.Prelude.{ℕ, List, eqb}
-use Rattle.notation.specs.Choice.{when◌then◌else◌}
+use Rattle.std.specs.Prelude.{ℕ, List}
 use Rattle.notation.specs.declared.Answer.{Answer}
-use Rattle.c_told.specs.Told.{told_by}
+use Rattle.c_told.specs.Told.{after_reading, told_by}
 use Rattle.channels.specs.Channels.{Channels}
-use Rattle.block_read.specs.Block as Block
 use Rattle.block_read.specs.Block.{read_of}
 use Rattle.block_read.specs.Block.{Reading}
 use Rattle.run.specs.Refusals as Run
@@ -15,7 +13,7 @@ use Rattle.run.specs.Refusals.{Outcome}
 
 -- the reader's refusal, and else the run's answer
 abbrev pub answer_by : Reading → Outcome → Answer
-answer_by reading outcome = when eqb (Block.paper reading).number 0 then Run.paper outcome else Block.paper reading
+answer_by reading outcome = after_reading reading (Run.paper outcome)
 
 -- running the list of a plan block
 abbrev pub answer_of : List ℕ → Channels → Answer

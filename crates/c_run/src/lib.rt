@@ -10,14 +10,11 @@ use block_read::ReadError;
 use notation::Answer;
 use run::RunError;
 
-// The reader's refusal comes before the run's. As `c_strips` and `c_plans` have it of theirs: each contract names its own.
+// The reader's refusal comes before the run's.
 fn answer_by(reading: Result<(), ReadError>, outcome: Result<u8, RunError>) -> Answer
     ensures { result ≡ answer_by reading outcome }
 {
-    match reading {
-        Ok(()) => run::paper(outcome),
-        Err(e) => block_read::paper(Err(e)),
-    }
+    c_told::after_reading(reading, run::paper(outcome))
 }
 
 // 0, or the number of the refusal; told are the number, the position, the width, and how many samples went bad.

@@ -3,7 +3,7 @@
 use Rattle.std.specs.Prelude.{ℕ, List, [], ◌∷◌, eqb, get_or}
 use Rattle.notation.specs.Choice.{when◌then◌else◌}
 use Rattle.notation.specs.declared.Answer.{Answer}
-use Rattle.c_told.specs.Told.{told_by}
+use Rattle.c_told.specs.Told.{after_reading, told_by}
 use Rattle.channels.specs.Channels.{Channels}
 use Rattle.list.specs.declared.Plan.{Plan}
 use Rattle.run_check.specs.Judging as Judging
@@ -13,7 +13,6 @@ use Rattle.run_strips.specs.Machine as Strips
 use Rattle.run_strips.specs.declared.Opened.{Opened}
 use Rattle.run_strips.specs.declared.State.{State}
 use Rattle.run_strips.specs.declared.Stripped.{Stripped}
-use Rattle.block_read.specs.Block as Block
 use Rattle.block_read.specs.Block.{read_of}
 use Rattle.block_read.specs.Block.{Reading}
 
@@ -38,7 +37,7 @@ abbrev pub opened : List ℕ → Opened
 opened bytes = open_of closed (read_of bytes).plan
 
 abbrev pub open_by : Reading → Judgement → Answer
-open_by reading judgement = when eqb (Block.paper reading).number 0 then Judging.paper judgement else Block.paper reading
+open_by reading judgement = after_reading reading (Judging.paper judgement)
 
 abbrev pub open_answer : List ℕ → Answer
 open_answer bytes = open_by (read_of bytes).answer (opened bytes).answer

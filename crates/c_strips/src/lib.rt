@@ -35,14 +35,11 @@ fn words_of(number: u8, sum: u64, refused: [u64; 2]) -> [u64; 2]
     [1, sum]
 }
 
-// The reader's refusal comes before the opening's, as in `c_run`.
+// The reader's refusal comes before the opening's.
 fn open_by(reading: Result<(), ReadError>, judgement: Result<u8, JudgeError>) -> Answer
     ensures { result ≡ open_by reading judgement }
 {
-    match reading {
-        Ok(()) => run_check::paper(judgement),
-        Err(e) => block_read::paper(Err(e)),
-    }
+    c_told::after_reading(reading, run_check::paper(judgement))
 }
 
 // Opens a run with the list of a block, whatever was open; told are number, position, width, and 0.

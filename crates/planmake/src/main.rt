@@ -10,7 +10,7 @@ fn word_length(text: &[u8]) -> usize {
 
 // Names the word that begins at a place, or says that one is missing there.
 fn name_fault(rt: &HostRuntime, text: &[u8], place: usize) -> io::Result<()> {
-    saying::begin(rt, "planmake")?;
+    program_io::begin(rt, "planmake")?;
     let line = plan_words::line_of(text, place);
     let word = plan_words::word_of(text, place);
     eprint!(rt; "line {line}, word {word}")?;
@@ -19,26 +19,25 @@ fn name_fault(rt: &HostRuntime, text: &[u8], place: usize) -> io::Result<()> {
 
 // The word's bytes stand as they came, which need not be text.
 fn name_word(rt: &HostRuntime, text: &[u8], place: usize) -> io::Result<()> {
-    let from = saying::least(place, text.len());
+    let from = program_io::least(place, text.len());
     let behind = &text[from..];
     let n = word_length(behind);
     if n == 0 {
         return eprintln!(rt; " is missing");
     }
     eprint!(rt; " is not understood: \"")?;
-    saying::write_part(&rt.stderr(), behind, 0, n)?;
+    program_io::write_part(&rt.stderr(), behind, 0, n)?;
     eprintln!(rt; "\"")
 }
 
-// No block is longer than 1,192 bytes.
 fn make(rt: &HostRuntime, text: &[u8]) -> io::Result<()> {
     let filling = plan_words::filled(text);
     if let Some(place) = filling.fault {
         return name_fault(rt, text, place);
     }
-    let mut block = [0u8; 1_192];
+    let mut block = [0u8; block_write::LONGEST];
     let mut told = [0u64; 4];
-    let number = c_plans::rindsaddle_plan(
+    let number = c_plan::rindsaddle_plan(
         &plan_words::source(filling),
         &plan_words::target(filling),
         &plan_words::floats(filling),
@@ -49,20 +48,20 @@ fn make(rt: &HostRuntime, text: &[u8]) -> io::Result<()> {
         &mut told,
     );
     if number != 0 {
-        return saying::refuse_by(rt, "planmake", number as u64, 0);
+        return program_io::refuse_by(rt, "planmake", number as u64, 0);
     }
-    if saying::write_part(rt, &block, 0, told[1] as usize).is_err() {
-        return saying::refuse(rt, "planmake", "the block cannot be written");
+    if program_io::write_part(rt, &block, 0, told[1] as usize).is_err() {
+        return program_io::refuse(rt, "planmake", "the block cannot be written");
     }
     Ok(())
 }
 
 fn main(rt: HostRuntime) -> io::Result<()> {
-    // No Vec, as `pictures` says.
+    // No Vec, as `program_io` says.
     let mut text = [0u8; 65_537];
-    let n = saying::read_full(&rt, &mut text)?;
+    let n = program_io::read_full(&rt, &mut text)?;
     if 65_536 < n {
-        return saying::refuse(&rt, "planmake", "the words are more than 65,536 bytes");
+        return program_io::refuse(&rt, "planmake", "the words are more than 65,536 bytes");
     }
     make(&rt, &text[..n])
 }

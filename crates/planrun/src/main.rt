@@ -8,18 +8,18 @@ ghost use Rattle.std.specs.Prelude.{◌<◌, IfOk, IfSome};
 use list::Plan;
 use pfm::Numbers;
 use picture::Run;
-use pictures::Ahead;
+use program_io::Ahead;
 use std::io;
 
 fn channels_refused(rt: &HostRuntime, start: u8) -> io::Result<()> {
     if start == 3 {
-        return saying::refuse(
+        return program_io::refuse(
             rt,
             "planrun",
             "the plan starts with three channels, and the picture is grey",
         );
     }
-    saying::refuse(
+    program_io::refuse(
         rt,
         "planrun",
         "the plan starts with one channel, and the picture has three",
@@ -39,14 +39,14 @@ fn next(rt: &HostRuntime, p: Progress, input: &mut Ahead) -> io::Result<Option<P
     ensures { IfOk result (λ o. IfSome o (λ q. q.left < p.left)) }
 {
     let numbers = p.run.numbers;
-    let n = pictures::strip_of(numbers.width, p.left);
-    let size = pictures::bytes_of(numbers.channels, n);
+    let n = program_io::strip_of(numbers.width, p.left);
+    let size = program_io::bytes_of(numbers.channels, n);
     input.fill(rt, size)?;
     let Some(bytes) = input.held().get(..size) else {
-        return saying::refused(rt, "planrun", "the picture ends early");
+        return program_io::refused(rt, "planrun", "the picture ends early");
     };
     let Ok(run) = picture::strip(rt, p.run, n, bytes) else {
-        return saying::refused(rt, "planrun", "the picture cannot be written");
+        return program_io::refused(rt, "planrun", "the picture cannot be written");
     };
     input.use_up(size);
     let left = p.left - n as u64;
@@ -55,7 +55,7 @@ fn next(rt: &HostRuntime, p: Progress, input: &mut Ahead) -> io::Result<Option<P
 
 // Strip by strip.
 fn run_strips(rt: &HostRuntime, run: Run, input: &mut Ahead) -> io::Result<()> {
-    let all = pictures::pixels_of(run.numbers.width, run.numbers.height);
+    let all = program_io::pixels_of(run.numbers.width, run.numbers.height);
     let mut p = Progress { run, left: all };
     while 0 < p.left {
         let Some(further) = next(rt, p, input)? else {
@@ -69,7 +69,7 @@ fn run_strips(rt: &HostRuntime, run: Run, input: &mut Ahead) -> io::Result<()> {
 
 fn finish(rt: &HostRuntime, run: Run, input: &Ahead) -> io::Result<()> {
     if !input.is_at_end(rt)? {
-        return saying::refuse(rt, "planrun", "bytes stand behind the picture");
+        return program_io::refuse(rt, "planrun", "bytes stand behind the picture");
     }
     picture::report(rt, run.state)
 }
@@ -78,7 +78,7 @@ fn finish(rt: &HostRuntime, run: Run, input: &Ahead) -> io::Result<()> {
 fn run_behind(rt: &HostRuntime, run: Run, input: &mut Ahead) -> io::Result<()> {
     let used = run.numbers.used;
     if picture::put_header(rt, run.end, input.held(), used).is_err() {
-        return saying::refuse(rt, "planrun", "the picture cannot be written");
+        return program_io::refuse(rt, "planrun", "the picture cannot be written");
     }
     input.pass(used);
     run_strips(rt, run, input)
@@ -92,7 +92,7 @@ fn run_plan(rt: &HostRuntime, plan: Plan, numbers: Numbers, input: &mut Ahead) -
     let opened = run_strips::open(run_strips::closed(), plan);
     let Ok(end) = opened.answer else {
         let judged = run_check::paper(opened.answer);
-        return saying::refuse_by(rt, "planrun", judged.number as u64, judged.position as u64);
+        return program_io::refuse_by(rt, "planrun", judged.number as u64, judged.position as u64);
     };
     let run = Run {
         state: opened.state,
@@ -105,8 +105,8 @@ fn run_plan(rt: &HostRuntime, plan: Plan, numbers: Numbers, input: &mut Ahead) -
 // The plan on the picture whose header is at the front of the input.
 fn run_picture(rt: &HostRuntime, plan: Plan, input: &mut Ahead) -> io::Result<()> {
     let header = pfm::read(input.held());
-    if !pictures::is_done(header.stage) {
-        return pictures::header_refused(rt, "planrun", header.stage);
+    if !program_io::is_done(header.stage) {
+        return program_io::header_refused(rt, "planrun", header.stage);
     }
     run_plan(rt, plan, header.numbers, input)
 }
@@ -116,7 +116,7 @@ fn run_block(rt: &HostRuntime, input: &mut Ahead) -> io::Result<()> {
     let block = block_read::read(input.held());
     if block.answer.is_err() {
         let read = block_read::paper(block.answer);
-        return saying::refuse_by(rt, "planrun", read.number as u64, 0);
+        return program_io::refuse_by(rt, "planrun", read.number as u64, 0);
     }
     input.pass(block.used);
     run_picture(rt, block.plan, input)

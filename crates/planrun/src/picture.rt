@@ -1,5 +1,5 @@
 // A strip of a picture: bytes in, samples, the list run on them, bytes out.
-// Three slices, as `channels` says; `n` stays a number, as `pictures` says.
+// Three slices, as `channels` says; `n` stays a number, as `program_io` says.
 ghost use Rattle.std.specs.Prelude.{◌≤◌};
 
 use pfm::{Numbers, Unfit};
@@ -54,11 +54,11 @@ fn on_samples(
 pub(crate) fn strip(rt: &HostRuntime, run: Run, n: usize, bytes: &[u8]) -> io::Result<Run>
     requires { n ≤ 65536 }
 {
-    let mut a = pictures::samples();
-    let mut b = pictures::samples();
-    let mut c = pictures::samples();
-    let mut out = pictures::strip_bytes();
-    let size = pictures::bytes_of(run.end, n);
+    let mut a = program_io::samples();
+    let mut b = program_io::samples();
+    let mut c = program_io::samples();
+    let mut out = program_io::strip_bytes();
+    let size = program_io::bytes_of(run.end, n);
     on_samples(
         rt,
         run,
@@ -74,7 +74,7 @@ pub(crate) fn strip(rt: &HostRuntime, run: Run, n: usize, bytes: &[u8]) -> io::R
 pub(crate) fn put_header(rt: &HostRuntime, end: u8, header: &[u8], used: usize) -> io::Result<()> {
     let mark = if end == 3 { b'F' } else { b'f' };
     rt.write_all(&[b'P', mark])?;
-    saying::write_part(rt, header, 2, used)
+    program_io::write_part(rt, header, 2, used)
 }
 
 // How far it is, where standard error is a terminal and the picture is large; what is said next stands over it.

@@ -7,7 +7,7 @@ mod turned;
 ghost use Rattle.std.specs.Prelude.{◌<◌, IfOk, IfSome};
 
 use pfm::Numbers;
-use pictures::Ahead;
+use program_io::Ahead;
 use std::fs::{File, OpenOptions};
 use std::io::ErrorKind;
 use std::os::unix::fs::OpenOptionsExt;
@@ -24,14 +24,14 @@ fn next(
     requires { 0 < left }
     ensures { IfOk result (λ o. IfSome o (λ further. further < left)) }
 {
-    let n = pictures::strip_of(numbers.width, left);
-    let size = pictures::bytes_of(numbers.channels, n);
+    let n = program_io::strip_of(numbers.width, left);
+    let size = program_io::bytes_of(numbers.channels, n);
     input.fill(rt, size)?;
     let Some(bytes) = input.held().get(..size) else {
-        return saying::refused(rt, "planshow", "the picture ends early");
+        return program_io::refused(rt, "planshow", "the picture ends early");
     };
     if shown::strip(numbers, n, bytes, file).is_err() {
-        return saying::refused(rt, "planshow", "there is no room for the picture in /tmp");
+        return program_io::refused(rt, "planshow", "there is no room for the picture in /tmp");
     }
     input.use_up(size);
     Ok(Some(left - n as u64))
@@ -41,7 +41,7 @@ fn whole(rt: &HostRuntime, input: &Ahead) -> io::Result<bool> {
     if input.is_at_end(rt)? {
         return Ok(true);
     }
-    saying::refuse(rt, "planshow", "bytes stand behind the picture")?;
+    program_io::refuse(rt, "planshow", "bytes stand behind the picture")?;
     Ok(false)
 }
 
@@ -52,7 +52,7 @@ fn filed(
     file: &mut File,
     input: &mut Ahead,
 ) -> io::Result<bool> {
-    let mut left = pictures::pixels_of(numbers.width, numbers.height);
+    let mut left = program_io::pixels_of(numbers.width, numbers.height);
     while 0 < left {
         let Some(further) = next(rt, left, numbers, file, input)? else {
             return Ok(false);
@@ -84,7 +84,7 @@ fn a_file(rt: &HostRuntime) -> io::Result<File> {
 // The size stands as it came, between the mark and the largest byte.
 fn put_header(rt: &HostRuntime, numbers: Numbers, header: &[u8]) -> io::Result<()> {
     rt.write_all(b"P6")?;
-    saying::write_part(rt, header, 2, numbers.sized)?;
+    program_io::write_part(rt, header, 2, numbers.sized)?;
     rt.write_all(b"255\n")
 }
 
@@ -100,7 +100,7 @@ fn show(rt: &HostRuntime, numbers: Numbers, file: &mut File, input: &mut Ahead) 
         return Ok(());
     }
     if put(rt, numbers, input.passed(), file).is_err() {
-        return saying::refuse(rt, "planshow", "the picture cannot be written");
+        return program_io::refuse(rt, "planshow", "the picture cannot be written");
     }
     Ok(())
 }
@@ -108,13 +108,13 @@ fn show(rt: &HostRuntime, numbers: Numbers, file: &mut File, input: &mut Ahead) 
 // The picture at the front of the input.
 fn show_picture(rt: &HostRuntime, input: &mut Ahead) -> io::Result<()> {
     let header = pfm::read(input.held());
-    if !pictures::is_done(header.stage) {
-        return pictures::header_refused(rt, "planshow", header.stage);
+    if !program_io::is_done(header.stage) {
+        return program_io::header_refused(rt, "planshow", header.stage);
     }
     let numbers = header.numbers;
     match a_file(rt) {
         Ok(mut file) => show(rt, numbers, &mut file, input),
-        Err(_) => saying::refuse(rt, "planshow", "no file can be made in /tmp"),
+        Err(_) => program_io::refuse(rt, "planshow", "no file can be made in /tmp"),
     }
 }
 

@@ -1,5 +1,5 @@
 // A strip of a picture: bytes in, samples, their screen bytes, pixels out.
-// Three slices, as `channels` says; `n` stays a number, as `pictures` says.
+// Three slices, as `channels` says; `n` stays a number, as `program_io` says.
 ghost use Rattle.std.specs.Prelude.{◌≤◌};
 
 use pfm::Numbers;
@@ -29,10 +29,10 @@ fn put_pixels(
 fn put_screen(n: usize, a: &[f32], b: &[f32], c: &[f32], file: &mut File) -> io::Result<()>
     requires { n ≤ 65536 }
 {
-    let mut red = pictures::channel_bytes();
-    let mut green = pictures::channel_bytes();
-    let mut blue = pictures::channel_bytes();
-    let mut out = pictures::strip_bytes();
+    let mut red = program_io::channel_bytes();
+    let mut green = program_io::channel_bytes();
+    let mut blue = program_io::channel_bytes();
+    let mut out = program_io::strip_bytes();
     put_pixels(
         a,
         b,
@@ -68,9 +68,9 @@ fn put_samples(
 pub(crate) fn strip(numbers: Numbers, n: usize, bytes: &[u8], file: &mut File) -> io::Result<()>
     requires { n ≤ 65536 }
 {
-    let mut a = pictures::samples();
-    let mut b = pictures::samples();
-    let mut c = pictures::samples();
+    let mut a = program_io::samples();
+    let mut b = program_io::samples();
+    let mut c = program_io::samples();
     put_samples(
         numbers,
         n,

@@ -21,7 +21,7 @@ fn copied(rt: &HostRuntime, file: &File, at: u64, part: &mut [u8]) -> io::Result
 fn put_piece(rt: &HostRuntime, file: &File, at: u64, n: usize) -> io::Result<()>
     requires { (n ≤ 65536) × (at ≤ 9223372036854775807) }
 {
-    let mut piece = pictures::channel_bytes();
+    let mut piece = program_io::channel_bytes();
     copied(rt, file, at, &mut piece[..n])
 }
 
@@ -37,7 +37,7 @@ fn put_part(rt: &HostRuntime, file: &File, from: u64, count: u64) -> io::Result<
 }
 
 pub(crate) fn put_lines(rt: &HostRuntime, width: u32, height: u32, file: &File) -> io::Result<()> {
-    if MOST < pictures::pixels_of(width, height) {
+    if MOST < program_io::pixels_of(width, height) {
         return Err(io::Error::from(ErrorKind::FileTooLarge));
     }
     let line = 3 * (width as u64);

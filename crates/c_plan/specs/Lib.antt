@@ -1,0 +1,3 @@
+-- Planning by numbers: planning between what numbers mean, and what is told of a list that is written.
+pub mod Planned
+pub mod Sent
