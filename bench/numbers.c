@@ -1,6 +1,6 @@
 /* The time of one call of mul_add and of cbrt, beside the C library's fmaf and cbrtf; of one sample of screen_bytes, of one pixel of
-   ycbcr_bytes and of rgb_bytes, and of one code of code_levels, beside plain Rust loops of the rule before W2, of the same rules, and
-   through a table; all in one run. With BEFORE, of cbrt also beside that of another commit. Inputs: 4,096 random patterns of finite floats
+   ycbcr_bytes and of rgb_bytes, of one byte that widen makes or narrow takes, and of one code of code_levels, beside plain Rust loops of the
+   rule before W2, of the same rules, and through a table; all in one run. With BEFORE, of cbrt also beside that of another commit. Inputs: 4,096 random patterns of finite floats
    with exponents within 30 of 0, 65,536 samples from -1/8 to 9/8, 65,536 pixels of any bytes, and 65,536 codes from 0 to 1023; the same
    for both sides, in warm buffers. */
 #include <math.h>
@@ -15,6 +15,8 @@ float before_cbrt(float x);
 void plain_screen_bytes(const float *samples, uint8_t *bytes, size_t count);
 void plain_ycbcr_bytes(const uint8_t *cb, const uint8_t *y, const uint8_t *cr, uint8_t *r, uint8_t *g, uint8_t *b, size_t count);
 void plain_rgb_bytes(const uint8_t *r, const uint8_t *g, const uint8_t *b, uint8_t *cb, uint8_t *y, uint8_t *cr, size_t count);
+void plain_widen(const uint8_t *line, uint8_t *out, size_t room);
+void plain_narrow(const uint8_t *line, uint8_t *out, size_t count);
 void plain_code_levels(const uint16_t *table, const uint16_t *codes, float *levels, size_t count);
 
 enum { COUNT = 4096, TURNS = 2000, SAMPLES = 65536, FRAMES = 200 };
@@ -71,6 +73,10 @@ TIMED(plain_ycbcr, FRAMES, SAMPLES, plain_ycbcr_bytes(in[0], in[1], in[2], to[0]
 TIMED(ours_rgb, FRAMES, SAMPLES,
       rindsaddle_rgb_bytes(3, in[0], SAMPLES, in[1], SAMPLES, in[2], SAMPLES, to[0], SAMPLES, to[1], SAMPLES, to[2], SAMPLES))
 TIMED(plain_rgb, FRAMES, SAMPLES, plain_rgb_bytes(in[0], in[1], in[2], to[0], to[1], to[2], SAMPLES))
+TIMED(ours_widen, FRAMES, SAMPLES, rindsaddle_widen(in[0], SAMPLES / 2, to[0], SAMPLES))
+TIMED(plain_widened, FRAMES, SAMPLES, plain_widen(in[0], to[0], SAMPLES))
+TIMED(ours_narrow, FRAMES, SAMPLES, rindsaddle_narrow(in[0], SAMPLES, to[0], SAMPLES / 2))
+TIMED(plain_narrowed, FRAMES, SAMPLES, plain_narrow(in[0], to[0], SAMPLES))
 TIMED(ours_codes, FRAMES, SAMPLES, rindsaddle_code_levels(codes, SAMPLES, levels, SAMPLES))
 TIMED(plain_codes, FRAMES, SAMPLES, plain_code_levels(table, codes, levels, SAMPLES))
 
@@ -92,6 +98,8 @@ int main(void) {
     report("screen_bytes", ours_screen(), "plain", plain_screen());
     report("ycbcr_bytes", ours_ycbcr(), "plain", plain_ycbcr());
     report("rgb_bytes", ours_rgb(), "plain", plain_rgb());
+    report("widen", ours_widen(), "plain", plain_widened());
+    report("narrow", ours_narrow(), "plain", plain_narrowed());
     report("code_levels", ours_codes(), "plain", plain_codes());
     return 0;
 }

@@ -1,5 +1,5 @@
 //! Plain loops that ours are timed beside: 01's rule of screen bytes, which W2 replaced; YCbCr to RGB over bytes by W5's own rule, and back by
-//! W11's; ten-bit codes through a table that is lent.
+//! W11's; chroma lines widened and narrowed by W13's; ten-bit codes through a table that is lent.
 
 /// # Safety
 /// `samples` points to `count` floats, and `bytes` to room for as many bytes.
@@ -58,6 +58,34 @@ pub unsafe extern "C" fn plain_rgb_bytes(
         cb[i] = byte(1000 * b - luma + 128 * 1772, 1772);
         y[i] = byte(luma, 1000);
         cr[i] = byte(1000 * r - luma + 128 * 1402, 1402);
+    }
+}
+
+/// # Safety
+/// `out` points to room for `room` bytes, an even number of them, and `line` to half as many.
+#[unsafe(no_mangle)]
+pub unsafe extern "C" fn plain_widen(line: *const u8, out: *mut u8, room: usize) {
+    let line = unsafe { std::slice::from_raw_parts(line, room / 2) };
+    let out = unsafe { std::slice::from_raw_parts_mut(out, room) };
+    for (j, byte) in out.iter_mut().enumerate() {
+        let i = j / 2;
+        let beside = if j % 2 == 0 {
+            i.saturating_sub(1)
+        } else {
+            (i + 1).min(line.len() - 1)
+        };
+        *byte = ((3 * line[i] as u32 + line[beside] as u32 + 2) / 4) as u8;
+    }
+}
+
+/// # Safety
+/// `line` points to `count` bytes, an even number of them, and `out` to room for half as many.
+#[unsafe(no_mangle)]
+pub unsafe extern "C" fn plain_narrow(line: *const u8, out: *mut u8, count: usize) {
+    let line = unsafe { std::slice::from_raw_parts(line, count) };
+    let out = unsafe { std::slice::from_raw_parts_mut(out, count / 2) };
+    for (byte, pair) in out.iter_mut().zip(line.chunks_exact(2)) {
+        *byte = ((pair[0] as u32 + pair[1] as u32 + 1) / 2) as u8;
     }
 }
 

@@ -1,7 +1,7 @@
 -- `widened` and `narrowed` of a byte line are the lines of W13's words, and no others.
 -- The words name for each output one byte and one neighbour, and one whole number is nearest what is made of them.
 use Prim.Native.Nat.{ℕ, ◌+◌, ◌-◌, ◌*◌, ◌/◌, ◌%◌, ◌≤◌, ◌<◌}
-use mathlib.Core.Path.{◌≡◌, ap, refl, sym, ◌∙◌}
+use mathlib.Core.Path.{◌≡◌, ap, refl, ◌∙◌}
 use mathlib.Core.Bool.{Bool, true, false}
 use mathlib.Core.Logic.{◌↔◌}
 use mathlib.Core.List.{List}
@@ -9,14 +9,13 @@ use native.Mathlib.Omega.{arith}
 use borrow.Author.Tests.{eqb-false, eqb-true, le-ltb, lt-ltb, ltb-false, ltb-true}
 use lib.Dec.{eqb, ltb}
 use lib.ListN.{get_or, length}
-use lib.Seq.{ext_get_or}
 use Rattle.nearest.specs.Nearest.{Fraction, Nearest, ⟨◌-◌⟩/◌, byte_of}
 use Rattle.nearest.proofs.Exactly.{nearest-one}
 use Rattle.chroma_half.specs.Lines.{ByteLine}
 use Rattle.chroma_half.specs.Twice.{FitsTwice}
 use Rattle.chroma_half.specs.Widening.{MadeFrom, Widened, after, before, beside_of, first, last, mix_of, output_at, widened, widened_at}
 use Rattle.chroma_half.specs.Narrowing.{Narrowed, mean_of, narrowed, narrowed_at}
-use Rattle.chroma_half.proofs.Lines.{length-line, line_at}
+use Rattle.chroma_half.proofs.Lines.{length-line, line_at, line_is}
 use Rattle.chroma_half.proofs.Twice.{halves_exactly, twice-exactly}
 
 made_of : {n j i k : ℕ} → MadeFrom n j i k → (i ≡ j / 2) × (k ≡ beside_of n j)
@@ -80,10 +79,10 @@ module _ (c out : List ℕ) (bytes : ByteLine c) where
       inside f j h = let e = (halves_exactly (length c) (length out)).0 ((twice-exactly (length c) (length out)).1 f) in omega arith
 
       same : Widened c out → out ≡ widened c (length out)
-      same w = ext_get_or 0 out (widened c (length out)) (sym (length-line (length out) (widened_at c))) (λ j h.
+      same w = line_is (length out) (widened_at c) out refl (λ j h.
           let k = beside_of (length c) j in
           let made = (made_exactly (length c) j (j / 2) k (inside w.fits j h)).1 (refl, refl) in
-          one (⟨ 3 * get_or c (j / 2) 0 + get_or c k 0 - 0 ⟩/ 4) _ _ (w.each made h) (mix-nearest _ _ (bytes (j / 2)) (bytes k)) ∙ sym (line_at (length out) (widened_at c) j h))
+          one (⟨ 3 * get_or c (j / 2) 0 + get_or c k 0 - 0 ⟩/ 4) _ _ (w.each made h) (mix-nearest _ _ (bytes (j / 2)) (bytes k)))
 
       each : out ≡ widened c (length out) → {j i k : ℕ} → MadeFrom (length c) j i k → j < length out → Nearest (⟨ 3 * get_or c i 0 + get_or c k 0 - 0 ⟩/ 4) (get_or out j 0) 0
       each e {j} {i} {k} made h =
@@ -99,9 +98,7 @@ module _ (c out : List ℕ) (bytes : ByteLine c) where
       same : Narrowed c out → out ≡ narrowed c
       same w =
           let e : length out ≡ (length c + 1) / 2 = (halves_exactly (length out) (length c)).0 ((twice-exactly (length out) (length c)).1 w.fits) in
-          ext_get_or 0 out (narrowed c) (e ∙ sym long) (λ i h.
-          let l : i < (length c + 1) / 2 = omega arith in
-          by i l (ltb (2 * i + 1) (length c)) refl ∙ sym (line_at ((length c + 1) / 2) (narrowed_at c) i l))
+          line_is ((length c + 1) / 2) (narrowed_at c) out e (λ i l. by i l (ltb (2 * i + 1) (length c)) refl)
         where
           by : (i : ℕ) → i < (length c + 1) / 2 → (b : Bool) → ltb (2 * i + 1) (length c) ≡ b → get_or out i 0 ≡ narrowed_at c i
           by i l true e =

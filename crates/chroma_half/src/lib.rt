@@ -5,7 +5,7 @@ ghost use Rattle.std.specs.Prelude.{◌*◌, ◌/◌, ◌<◌, ◌≡◌, length
 ghost use Rattle.chroma_half.specs.Twice.{fits_twice};
 ghost use Rattle.chroma_half.specs.Widening.{mix_of, output_at};
 ghost use Rattle.chroma_half.specs.Steps.{Beside};
-ghost use Rattle.chroma_half.specs.Narrowing.{mean_of, narrowed_at};
+ghost use Rattle.chroma_half.specs.Narrowing.{mean_of};
 ghost use Rattle.chroma_half.specs.Fitting.{narrowed_into, narrowing, paper, widened_into, widening};
 
 use notation::Answer;
@@ -36,7 +36,7 @@ pub fn fits_twice(n: usize, m: usize) -> bool
 fn mix(a: u8, b: u8) -> u8
     ensures { result ≡ mix_of a b }
 {
-    ((3 * a as u32 + b as u32 + 2) / 4) as u8
+    ((3 * a as u16 + b as u16 + 2) / 4) as u8
 }
 
 // Which of n bytes is the neighbour that output j takes.
@@ -63,6 +63,7 @@ pub fn output_at(c: &[u8], j: usize) -> u8
     0
 }
 
+// Two outputs between each byte and the one before it; the first and the last, whose neighbour lies past the line, by themselves.
 pub fn widen(c: &[u8], out: &mut [u8]) -> Result<(), Unfit>
     ensures value { result ≡ widening c.now out.old }
     ensures out_after { out.new ≡ widened_into c.now out.old }
@@ -70,8 +71,14 @@ pub fn widen(c: &[u8], out: &mut [u8]) -> Result<(), Unfit>
     if !fits_twice(c.len(), out.len()) {
         return Err(Unfit);
     }
-    for (j, byte) in out.iter_mut().enumerate() {
-        *byte = output_at(c, j);
+    for i in 1..c.len() {
+        out[2 * i - 1] = mix(c[i - 1], c[i]);
+        out[2 * i] = mix(c[i], c[i - 1]);
+    }
+    let m = out.len();
+    if m > 0 {
+        out[0] = output_at(c, 0);
+        out[m - 1] = output_at(c, m - 1);
     }
     Ok(())
 }
@@ -81,22 +88,10 @@ pub fn widen(c: &[u8], out: &mut [u8]) -> Result<(), Unfit>
 fn mean(a: u8, b: u8) -> u8
     ensures { result ≡ mean_of a b }
 {
-    ((a as u32 + b as u32 + 1) / 2) as u8
+    ((a as u16 + b as u16 + 1) / 2) as u8
 }
 
 // Each pair's mean, and an odd last byte as it is.
-fn narrowed_at(c: &[u8], i: usize) -> u8
-    requires { 2 * i < length c.now }
-    ensures { result ≡ narrowed_at c.now i }
-{
-    let j = 2 * i;
-    if j + 1 < c.len() {
-        return mean(c[j], c[j + 1]);
-    }
-    c[j]
-}
-
-// Kept apart from `widen`: what the two share is a loop of one line.
 pub fn narrow(c: &[u8], out: &mut [u8]) -> Result<(), Unfit>
     ensures value { result ≡ narrowing c.now out.old }
     ensures out_after { out.new ≡ narrowed_into c.now out.old }
@@ -104,8 +99,12 @@ pub fn narrow(c: &[u8], out: &mut [u8]) -> Result<(), Unfit>
     if !fits_twice(out.len(), c.len()) {
         return Err(Unfit);
     }
-    for (i, byte) in out.iter_mut().enumerate() {
-        *byte = narrowed_at(c, i);
+    let pairs = c.len() / 2;
+    for i in 0..pairs {
+        out[i] = mean(c[2 * i], c[2 * i + 1]);
+    }
+    if pairs < out.len() {
+        out[pairs] = c[2 * pairs];
     }
     Ok(())
 }

@@ -35,16 +35,20 @@ pub fn line_to_rgb(
 {
     let fits = fits_line(cb.len(), y.len(), cr.len(), r.len(), g.len(), b.len());
     ycbcr_firmware::judge(firmware, fits)?;
-    let f = ycbcr_pixel::factors_of(ycbcr_firmware::weights_of(firmware));
-    // The chroma of each pixel is widened where it is asked for, and no widened line is kept.
-    let rgb_at = |i: usize| {
+    // R and B are room for the widened chroma, until their own bytes are made in its place.
+    let _ = chroma_half::widen(cb, r);
+    let _ = chroma_half::widen(cr, b);
+    let f = ycbcr_pixel::forms_of(firmware);
+    for i in 0..y.len() {
         let cbycr = Pixel {
-            c0: chroma_half::output_at(cb, i),
+            c0: r[i],
             c1: y[i],
-            c2: chroma_half::output_at(cr, i),
+            c2: b[i],
         };
-        ycbcr_pixel::rgb(f, cbycr)
-    };
-    ycbcr_planes::each_place(rgb_at, r, g, b);
+        let out = ycbcr_pixel::rgb(f, cbycr);
+        r[i] = out.c0;
+        g[i] = out.c1;
+        b[i] = out.c2;
+    }
     Ok(())
 }

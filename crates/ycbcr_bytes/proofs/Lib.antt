@@ -1,4 +1,2 @@
 -- Theorems: Determined.
 pub mod Determined
--- a pixel by a firmware's factors
-pub mod ByFirmware

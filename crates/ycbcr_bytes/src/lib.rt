@@ -26,7 +26,7 @@ pub fn ycbcr_to_rgb(
 {
     let equal = ycbcr_planes::same_lengths(cb.len(), y.len(), cr.len(), r.len(), g.len(), b.len());
     ycbcr_firmware::judge(firmware, equal)?;
-    let f = ycbcr_pixel::factors_of(ycbcr_firmware::weights_of(firmware));
+    let f = ycbcr_pixel::forms_of(firmware);
     let rgb_at = |i: usize| {
         let cbycr = Pixel {
             c0: cb[i],

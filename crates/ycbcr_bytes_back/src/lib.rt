@@ -26,14 +26,14 @@ pub fn rgb_to_ycbcr(
 {
     let equal = ycbcr_planes::same_lengths(r.len(), g.len(), b.len(), cb.len(), y.len(), cr.len());
     ycbcr_firmware::judge(firmware, equal)?;
-    let w = ycbcr_firmware::weights_of(firmware);
+    let f = ycbcr_pixel_back::forms_of(firmware);
     let ycbcr_at = |i: usize| {
         let rgb = Pixel {
             c0: r[i],
             c1: g[i],
             c2: b[i],
         };
-        ycbcr_pixel_back::ycbcr(w, rgb)
+        ycbcr_pixel_back::ycbcr(f, rgb)
     };
     ycbcr_planes::each_place(ycbcr_at, cb, y, cr);
     Ok(())

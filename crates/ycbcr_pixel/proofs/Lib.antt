@@ -1,3 +1,2 @@
--- Theorems: Weighed (a pixel by the factors of weights is that pixel by the weights), Determined.
-pub mod Weighed
+-- Theorems: Determined.
 pub mod Determined

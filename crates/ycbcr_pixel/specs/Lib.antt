@@ -1,3 +1,3 @@
--- The products of the weights, one pixel by them, and what its steps ask of each other.
-pub mod Factors
+-- The numbers by which a pixel is converted with no division, and when they are right for weights.
+pub mod Numbers
 pub mod Steps

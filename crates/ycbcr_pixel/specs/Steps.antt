@@ -1,11 +1,7 @@
--- What the steps of one pixel's code ensure and ask of each other: how large the numbers are. Definitions only.
-use Rattle.std.specs.Prelude.{ℕ, ◌*◌, ◌<◌, ◌≡◌}
+-- What one step of green's code ensures. Relations only.
+use Rattle.std.specs.Prelude.{ℕ, ◌+◌, ◌*◌, ◌/◌, ◌≤◌, ◌≡◌}
 
--- a factor times a byte
-pub record Scaled (factor byte r : ℕ) : Type 0 where
-  pub is : r ≡ factor * byte
-  pub small : r < 0x100_0000_0000
-
--- a number that fits 64 bits when it is doubled
-abbrev pub Fits : ℕ → Type 0
-Fits n = n < 0x1000_0000_0000_0000
+-- a digit of A and one of B times a byte each, with c, and seven bits less
+pub record Row (a b c u v r : ℕ) : Type 0 where
+  pub is : r ≡ (a * u + b * v + c) / 128
+  pub small : r ≤ 511

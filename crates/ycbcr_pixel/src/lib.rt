@@ -1,109 +1,71 @@
-// One pixel from YCbCr to RGB, by what the weights make.
+// One pixel from YCbCr to RGB, exactly, by products of 16 bits and shifts: nothing is divided, and no product is wider than 32 bits.
 #![tactic(auto)]
 
-ghost use Rattle.std.specs.Prelude.{◌≡◌};
-ghost use Rattle.nearest.specs.Nearest.{byte_of, ⟨◌-◌⟩/◌};
-ghost use Rattle.ycbcr_weights.specs.Rgb.{along, between};
-ghost use Rattle.ycbcr_pixel.specs.Factors.{capped, factors_of, rgb_by};
-ghost use Rattle.ycbcr_pixel.specs.Steps.{Fits, Scaled};
+mod forms;
+mod numbers;
 
-use ycbcr_weights::{Pixel, Weights};
+ghost use Rattle.std.specs.Prelude.{◌≡◌, ◌≤◌, ◌+◌, ◌*◌, ◌/◌};
+ghost use Rattle.nearest.specs.Nearest.{held};
+ghost use Rattle.ycbcr_weights.specs.Rgb.{rgb_of};
+ghost use Rattle.ycbcr_pixel.specs.Numbers.{Small, across, stretched};
+ghost use Rattle.ycbcr_pixel.specs.Steps.{Row};
 
-// The products of the weights, worked out once for a channel.
-#[derive(Clone, Copy, Debug, PartialEq, Eq)]
-pub struct Factors {
-    // N
-    n: u32,
-    // 2(N - kr)
-    red: u32,
-    // 2(N - kb)
-    blue: u32,
-    // kg N
-    over: u32,
-    // 2kb(N - kb)
-    cb: u32,
-    // 2kr(N - kr)
-    cr: u32,
+pub use forms::{Forms, forms_of};
+use numbers::Numbers;
+use ycbcr_weights::Pixel;
+
+// The high half of a product.
+pub fn high(z: u16, a: u16) -> u16
+    ensures { result ≡ z * a / 0x1_0000 }
+{
+    (z as u32 * a as u32 / 0x1_0000) as u16
 }
 
-fn capped(x: u64) -> u32
-    ensures { result ≡ capped x }
+// t - k, held within 0 to 255.
+fn held(t: u16, k: u16) -> u8
+    requires { (t ≤ 2047) × (k ≤ 511) }
+    ensures { result ≡ held t k }
 {
-    x.min(0xffff_ffff) as u32
+    (t as i16 - k as i16).clamp(0, 255) as u8
 }
 
-pub fn factors_of(w: Weights) -> Factors
-    ensures { result ≡ factors_of w }
+// Red and blue.
+fn red_or_blue(d: u8, a: u16, k: u16, y: u8, x: u8) -> u8
+    requires { k ≤ 511 }
+    ensures { result ≡ held (stretched d a y x) k }
 {
-    let kr = w.kr as u64;
-    let kg = w.kg as u64;
-    let kb = w.kb as u64;
-    let n = kr + kg + kb;
-    let red = 2 * (kg + kb);
-    let blue = 2 * (kr + kg);
-    Factors {
-        n: n as u32,
-        red: red as u32,
-        blue: blue as u32,
-        over: capped(kg * n),
-        cb: capped(kb * blue),
-        cr: capped(kr * red),
-    }
+    let x = x as u16;
+    held(y as u16 + (x + high(x + d as u16, a)), k)
 }
 
-fn scaled(factor: u32, byte: u8) -> u64
-    ensures { Scaled factor byte result }
+// One digit of green's numbers, and what the digits below it carry.
+fn row(a: u8, b: u8, c: u16, u: u8, v: u8) -> u16
+    requires { (a ≤ 127) × (b ≤ 127) × (c ≤ 638) }
+    ensures { Row a b c u v result }
 {
-    factor as u64 * byte as u64
+    (a as u16 * u as u16 + b as u16 * v as u16 + c) / 128
 }
 
-// (plus - minus)/over to the nearest whole number, halves upward, held within 0 to 255.
-fn byte(plus: u64, minus: u64, over: u32) -> u8
-    requires { Fits plus × Fits minus }
-    ensures { result ≡ byte_of (⟨ plus - minus ⟩/ over) }
+fn green(n: Numbers, p: Pixel) -> u8
+    requires { Small n }
+    ensures { result ≡ held (across n p) n.gk }
 {
-    if over == 0 {
-        return 0;
-    }
-    let up = 2 * plus + over as u64;
-    let whole = up.saturating_sub(2 * minus) / (2 * over as u64);
-    whole.min(255) as u8
-}
-
-// The same of numbers of 32 bits, whatever they are.
-pub fn nearest_byte(plus: u32, minus: u32, over: u32) -> u8
-    ensures { result ≡ byte_of (⟨ plus - minus ⟩/ over) }
-{
-    byte(plus as u64, minus as u64, over)
-}
-
-// Red and blue: y + factor (chroma - 128)/n.
-fn red_or_blue(n: u32, factor: u32, y: u8, chroma: u8) -> u8
-    ensures { result ≡ byte_of (along n factor y chroma) }
-{
-    byte(
-        scaled(n, y) + scaled(factor, chroma),
-        scaled(factor, 128),
-        n,
-    )
-}
-
-fn green(over: u32, cb: u32, cr: u32, p: Pixel) -> u8
-    ensures { result ≡ byte_of (between over cb cr p) }
-{
-    let plus = scaled(over, p.c1) + (cb as u64 + cr as u64) * 128;
-    let minus = scaled(cb, p.c0) + scaled(cr, p.c2);
-    byte(plus, minus, over)
+    let u = 255 - p.c0;
+    let v = 255 - p.c2;
+    let low = row(n.a2, n.b2, 0, u, v);
+    let mid = row(n.a1, n.b1, n.c1 as u16 + low, u, v);
+    let high = row(n.a0, n.b0, n.c0 as u16 + mid, u, v);
+    held(p.c1 as u16 + high, n.gk as u16)
 }
 
 // Cb, Y, Cr in; R, G, B out.
-#[tactic(auto, unfolding(crate::specs::Factors::rgb_by))]
-pub fn rgb(f: Factors, p: Pixel) -> Pixel
-    ensures { result ≡ rgb_by f p }
+pub fn rgb(f: Forms, p: Pixel) -> Pixel
+    ensures { result ≡ rgb_of f.weights p }
 {
+    let n = f.numbers;
     Pixel {
-        c0: red_or_blue(f.n, f.red, p.c1, p.c2),
-        c1: green(f.over, f.cb, f.cr, p),
-        c2: red_or_blue(f.n, f.blue, p.c1, p.c0),
+        c0: red_or_blue(n.rd, n.ra, n.rk, p.c1, p.c2),
+        c1: green(n, p),
+        c2: red_or_blue(n.bd, n.ba, n.bk, p.c1, p.c0),
     }
 }

@@ -1,8 +1,10 @@
 -- `narrow` makes each byte by the index rule where the lengths fit, and changes nothing where they do not.
--- The test of the lengths decides; the loop argument is `Rewriting`'s, for the narrowed line.
-use Rattle.notation.proofs.Rewriting.{Rewritten}
-use Rattle.chroma_half.specs.Narrowing.{narrowed}
+-- Before pair i each mean is made.
+use Prim.Native.Nat.{ℕ, ◌<◌}
+use mathlib.Core.Path.{◌≡◌}
+use lib.ListN.{get_or}
+use Rattle.chroma_half.specs.Narrowing.{narrowed_at}
 use Rattle.chroma_half.proofs.narrow.Given as goal
 
 abbrev pub invariant-loop-i : goal.invariant-loop-i
-invariant-loop-i l = Rewritten (narrowed l.c) l.initial.out l.i l.out
+invariant-loop-i l = (k : ℕ) → k < l.i → get_or l.out k 0 ≡ narrowed_at l.c k

@@ -1,18 +1,15 @@
 -- `ycbcr_to_rgb` converts each pixel where `judge` lets it, and changes nothing where it does not.
--- A pixel by the factors of the firmware's weights is `rgb_of` (`ByFirmware`).
+-- The answer Ok gives the lengths; each pixel is converted at its place, by the firmware's weights.
 use Prim.Native.Nat.{ℕ, ◌<◌}
 use mathlib.Core.Path.{◌≡◌, ap, sym, ◌∙◌}
 use lib.ListN.{length}
 use Rattle.std.proofs.Common.{rules}
 use Rattle.ycbcr_weights.specs.Rgb.{rgb_of}
-use Rattle.ycbcr_firmware.specs.Firmware.{weights_of}
 use Rattle.ycbcr_firmware.specs.Conversion.{conversion_of}
 use Rattle.ycbcr_firmware.proofs.Exactly.{done-equal}
-use Rattle.ycbcr_pixel.specs.Factors.{factors_of, rgb_by}
 use Rattle.ycbcr_planes.specs.Planes.{equally_long, pixel_at, planes}
 use Rattle.ycbcr_planes.proofs.Exactly.{equal_exactly}
 use Rattle.ycbcr_planes.proofs.Placing.{each_placed}
-use Rattle.ycbcr_bytes.proofs.ByFirmware.{by_firmware}
 use Rattle.ycbcr_bytes.proofs.ycbcr_to_rgb.Goals as goal
 
 pub returns-clause-b_after : goal.returns-clause-b_after
@@ -24,7 +21,7 @@ returns-clause-b_after c =
     let t = planes a.r.now a.g.now a.b.now in
     let u = planes o.r o.g o.b in
     let e = c.in_ok-judge.ensures ∙ ap (conversion_of n) c.same_lengths-equal.ensures in
-    let f : rgb_by c.factors_of-f.result ≡ rgb_of (weights_of n) = ap rgb_by (c.factors_of-f.ensures ∙ ap factors_of c.weights_of.ensures) ∙ by_firmware n in
-    let at : (i : ℕ) → i < length t.a → pixel_at u i ≡ rgb_by c.factors_of-f.result (pixel_at s i) = λ i h. search (rules, c.each_place.ensures i h) in
+    let f = ap rgb_of c.forms_of-f.ensures in
+    let at : (i : ℕ) → i < length t.a → pixel_at u i ≡ rgb_of c.forms_of-f.result.weights (pixel_at s i) = λ i h. search (rules, c.each_place.ensures i h) in
     let l = (equal_exactly s t).0 (done-equal n (equally_long s t) e) in
     rw (sym e, sym f) (each_placed _ s t u l c.each_place.auto.r c.each_place.auto.g c.each_place.auto.b at)

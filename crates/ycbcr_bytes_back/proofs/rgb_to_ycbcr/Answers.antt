@@ -21,7 +21,7 @@ returns-clause-cr_after c =
     let t = planes a.cb.now a.y.now a.cr.now in
     let u = planes o.r o.g o.b in
     let e = c.in_ok-judge.ensures ∙ ap (conversion_of n) c.same_lengths-equal.ensures in
-    let f = ap ycbcr_of c.weights_of-w.ensures in
-    let at : (i : ℕ) → i < length t.a → pixel_at u i ≡ ycbcr_of c.weights_of-w.result (pixel_at s i) = λ i h. search (rules, c.each_place.ensures i h) in
+    let f = ap ycbcr_of c.forms_of-f.ensures in
+    let at : (i : ℕ) → i < length t.a → pixel_at u i ≡ ycbcr_of c.forms_of-f.result.weights (pixel_at s i) = λ i h. search (rules, c.each_place.ensures i h) in
     let l = (equal_exactly s t).0 (done-equal n (equally_long s t) e) in
     rw (sym e, sym f) (each_placed _ s t u l c.each_place.auto.r c.each_place.auto.g c.each_place.auto.b at)

@@ -1,0 +1,2 @@
+-- The numbers by which a pixel is converted back with no division, and when they are right for weights.
+pub mod Numbers
