@@ -110,7 +110,7 @@ pub fn push(plan: Plan, op: Op) -> Plan
     if !lawful(plan) || plan.count == 32 {
         return empty(0);
     }
-    let mut longer = kept(plan);
+    let mut longer = padded(&plan.ops[..plan.count], plan.start, plan.end);
     longer.ops[plan.count] = Slot { op };
     longer.count = plan.count + 1;
     longer.end = led_to(op, plan.end);

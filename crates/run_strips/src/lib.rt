@@ -88,13 +88,11 @@ fn refused_as(e: StripError, state: State) -> Stripped
 pub fn close(state: State) -> Stripped
     ensures { result ≡ close_of state }
 {
-    match ending(state.plan) {
-        Ok(width) => Stripped {
-            answer: Ok(width),
-            bad: state.bad,
-            state: closed(),
-        },
-        Err(e) => refused_as(e, closed()),
+    let answer = ending(state.plan);
+    Stripped {
+        answer,
+        bad: answer.map_or(0, |_| state.bad),
+        state: closed(),
     }
 }
 

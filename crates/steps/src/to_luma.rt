@@ -17,7 +17,9 @@ pub fn xyz_to_luma_samples(a: &mut [f32], b: &[f32], c: &[f32]) -> Result<u8, Un
     if !channels::same_lengths(a.len(), b.len(), c.len()) {
         return Err(Unequal);
     }
-    a.copy_from_slice(b);
+    for i in 0..a.len() {
+        a[i] = b[i];
+    }
     Ok(1)
 }
 
