@@ -50,7 +50,8 @@ fn on_samples(
     Ok(next)
 }
 
-// So many pixels.
+// So many pixels. Not inlined: a picture that is refused would touch the rooms of a strip.
+#[inline(never)]
 pub(crate) fn strip(rt: &HostRuntime, run: Run, n: usize, bytes: &[u8]) -> io::Result<Run>
     requires { n ≤ 65536 }
 {
