@@ -45,8 +45,7 @@ fn put_op_lines(out: &mut Text, ops: &[Slot])
     }
 }
 
-// All lines but the last. Inlined, as `plan_text` is: a text would be moved from one to the next.
-#[inline(always)]
+// All lines but the last.
 #[tactic(auto, using(crate::proofs::Enough::ops_fit, crate::proofs::Enough::all_short))]
 fn lines(plan: Plan) -> Text
     requires { Lawful plan }
@@ -68,7 +67,6 @@ fn refusal(number: usize) -> Text
     text
 }
 
-#[inline(always)]
 fn plan_text(plan: Plan) -> Text
     ensures { result.items ≡ plan_text plan }
 {
