@@ -17,6 +17,7 @@ pub fn xyz_to_luma_samples(a: &mut [f32], b: &[f32], c: &[f32]) -> Result<u8, Un
     if !channels::same_lengths(a.len(), b.len(), c.len()) {
         return Err(Unequal);
     }
+    // By a loop: `copy_from_slice` calls memmove, which an archive for C would need from outside.
     for i in 0..a.len() {
         a[i] = b[i];
     }
